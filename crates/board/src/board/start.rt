@@ -1,0 +1,18 @@
+ghost use mathlib.Core.Path.{_≡_};
+ghost use Rattle.board.specs.Boards.{own, start-board};
+use super::Board;
+use crate::stage::Stage;
+use crate::waiting::Waiting;
+
+impl Board {
+    /// Board `number` as it starts: nothing is open, waiting or deferred.
+    pub fn start(number: u8) -> Board
+        ensures { λ r. ⌜ own r ≡ start-board number ⌝ }
+    {
+        Board {
+            number,
+            stage: Stage::Idle,
+            waiting: Waiting::new(),
+        }
+    }
+}

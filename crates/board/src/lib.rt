@@ -1,0 +1,5 @@
+pub mod board;
+pub mod entry;
+pub mod request;
+pub mod stage;
+pub mod waiting;

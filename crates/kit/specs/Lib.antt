@@ -1,0 +1,4 @@
+pub mod Kits
+pub mod Asked
+pub mod Memory
+pub mod Cases

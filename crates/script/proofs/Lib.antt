@@ -1,0 +1,3 @@
+pub mod Numerals
+pub mod Scripts
+pub mod Turns

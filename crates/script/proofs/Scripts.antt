@@ -1,0 +1,63 @@
+-- The records of a script, one after another.
+use mathlib.Core.Path.{_≡_, refl, ap, sym, _∙_}
+use mathlib.Core.List.{List, [], _∷_, _++_, map}
+use mathlib.Core.Logic.{⊎-elim}
+use Prim.Native.Nat.{ℕ, zero, suc, _+_, _-_, _*_, _/_, _%_, _<_, _≤_, min}
+use native.Mathlib.Nat.{div-add-mod, mod-lt}
+use native.Mathlib.Omega.{arith}
+use lib.ListN.{length, getD, take, drop}
+use Rattle.std.specs.Iters.{counting}
+use mathlib.Core.Bool.{Bool, cond, true, false}
+use lib.Dec.{eqb}
+use Rattle.std.proofs.shelf.Lists.{take-all, length-drop, append-assoc, append-nil}
+use Rattle.script.specs.Records.{record-at, record-count, records-from, letter-K}
+use Rattle.script.specs.Lines.{line-of, refused-line, text}
+use Rattle.script.specs.Plays.{Bench, Turn, turn, accept, refuse, ends, answers}
+use Rattle.script.specs.declared.answer.Answer.{Answer}
+
+-- a record begins inside the script
+pub begins-inside : (script : List ℕ) (i : ℕ) → i < record-count script → 16 * i < length script
+begins-inside script i h = omega (arith, div-add-mod (length script) 16, mod-lt (length script) {m = 16} (omega arith))
+
+-- what is left where fewer than sixteen characters are is the whole record
+pub cut-short : (script : List ℕ) (i width : ℕ) → length script - 16 * i < 16 → width ≡ length script - 16 * i → take width (drop (16 * i) script) ≡ record-at script i
+cut-short script i width h e =
+    let l = length-drop (16 * i) script in
+    take-all width (drop (16 * i) script) (omega arith) ∙ sym (take-all 16 (drop (16 * i) script) (omega arith))
+
+pub records-more : (script : List ℕ) (i : ℕ) → i < record-count script → records-from script i ≡ record-at script i ∷ records-from script (i + 1)
+records-more script i h =
+    let k : record-count script - i ≡ suc (record-count script - (i + 1)) = omega arith in
+    ap (λ n. map (record-at script) (counting i n)) k
+
+pub records-none : (script : List ℕ) (i : ℕ) → record-count script ≤ i → records-from script i ≡ []
+records-none script i h = let k : record-count script - i ≡ 0 = omega arith in ap (λ n. map (record-at script) (counting i n)) k
+
+-- The answers from record i on are to complete the listing. What stands in the listing after that record's own answer, by what its turn is:
+module _ (script : List ℕ) (i : ℕ) (h : i < record-count script) (r : List ℕ) (at : r ≡ record-at script i) (s : Bench) (out all : List ℕ) (p : out ++ answers s (records-from script i) ≡ all) where
+  at-turn : (t : Turn) → turn s r ≡ t → out ++ (text (t .line) ++ cond (ends t r) [] (answers (t .bench) (records-from script (i + 1)))) ≡ all
+  at-turn t e =
+      ap (λ (u : Turn). out ++ (text (u .line) ++ cond (ends u r) [] (answers (u .bench) (records-from script (i + 1))))) (sym e)
+      ∙ ap (λ (x : List ℕ). out ++ answers s (x ∷ records-from script (i + 1))) at
+      ∙ ap (λ rs. out ++ answers s rs) (sym (records-more script i h)) ∙ p
+
+  -- it is accepted: the listing goes on
+  pub goes-on : (a : Answer) (after : Bench) (new : List ℕ) → turn s r ≡ accept a after → new ≡ out ++ text (line-of a) → new ++ answers after (records-from script (i + 1)) ≡ all
+  goes-on a after new e n =
+      ap (λ xs. xs ++ answers after (records-from script (i + 1))) n ∙ append-assoc out (text (line-of a)) (answers after (records-from script (i + 1))) ∙ at-turn (accept a after) e
+
+  -- it is refused and does not name a kit: it goes on too
+  pub goes-on-refused : (f : ℕ) (after : Bench) (new : List ℕ) (k : Bool) → turn s r ≡ refuse after f → new ≡ out ++ text (refused-line f) → k ≡ eqb (getD r 0 0) letter-K → k ≡ false → new ++ answers after (records-from script (i + 1)) ≡ all
+  goes-on-refused f after new k e n is no-K =
+      ap (λ xs. xs ++ answers after (records-from script (i + 1))) n ∙ append-assoc out (text (refused-line f)) (answers after (records-from script (i + 1)))
+      ∙ ap (λ b. out ++ (text (refused-line f) ++ cond b [] (answers after (records-from script (i + 1))))) (sym no-K ∙ is) ∙ at-turn (refuse after f) e
+
+  -- it is refused and names a kit: the listing ends
+  pub ends-here : (f : ℕ) (after : Bench) (new : List ℕ) (k : Bool) → turn s r ≡ refuse after f → new ≡ out ++ text (refused-line f) → k ≡ eqb (getD r 0 0) letter-K → k ≡ true → new ≡ all
+  ends-here f after new k e n is names-K =
+      n ∙ ap (λ xs. out ++ xs) (sym (append-nil (text (refused-line f))))
+      ∙ ap (λ b. out ++ (text (refused-line f) ++ cond b [] (answers after (records-from script (i + 1))))) (sym names-K ∙ is) ∙ at-turn (refuse after f) e
+
+-- after the last record nothing more is answered
+pub all-answered : (script : List ℕ) (i : ℕ) (s : Bench) (out all : List ℕ) → record-count script ≤ i → out ++ answers s (records-from script i) ≡ all → out ≡ all
+all-answered script i s out all h p = sym (append-nil out) ∙ ap (λ rs. out ++ answers s rs) (sym (records-none script i h)) ∙ p

@@ -1,0 +1,5 @@
+pub mod Digits
+pub mod Records
+pub mod Lines
+pub mod Plays
+pub mod Sittings

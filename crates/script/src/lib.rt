@@ -1,0 +1,7 @@
+pub mod answer;
+pub mod call;
+mod digits;
+pub mod line;
+pub mod play;
+pub mod record;
+pub mod turn;

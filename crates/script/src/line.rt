@@ -1,0 +1,28 @@
+ghost use mathlib.Core.Path.{_≡_};
+ghost use Rattle.script.specs.Lines.{text};
+use crate::digits::write_number;
+
+/// A line of the listing: a letter and its numbers.
+#[derive(Clone, Copy)]
+pub struct Line {
+    pub letter: u8,
+    pub two: u32,
+    pub three: u32,
+    pub eight: u32,
+    pub hops: u32,
+}
+
+impl Line {
+    /// The sixteen characters.
+    pub fn text(&self) -> [u8; 16]
+        ensures { λ r. ⌜ r ≡ text (now (self .entry)) ⌝ }
+    {
+        let mut text = [b'\n'; 16];
+        text[0] = self.letter;
+        write_number(&mut text[1..3], 10, self.two);
+        write_number(&mut text[3..6], 10, self.three);
+        write_number(&mut text[6..14], 16, self.eight);
+        write_number(&mut text[14..15], 16, self.hops);
+        text
+    }
+}

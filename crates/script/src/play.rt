@@ -1,0 +1,136 @@
+ghost use mathlib.Core.Path.{_≡_};
+ghost use mathlib.Core.List.{_++_};
+ghost use Prim.Native.Nat.{_<_};
+ghost use lib.Dec.{eqb};
+ghost use lib.ListN.{getD};
+ghost use Rattle.std.specs.Of.Vec.{vec-items};
+ghost use Rattle.std.specs.Vec.{made};
+ghost use Rattle.script.specs.Records.{record-at, record-count, records-from, letter-K};
+ghost use Rattle.script.specs.Lines.{line-of, refused-line, text};
+ghost use Rattle.wire.specs.Faults.{number};
+ghost use Rattle.kit.specs.Kits.{kit-of};
+ghost use Rattle.script.specs.Plays.{no-kit, loading, answers, listing};
+ghost use Rattle.script.specs.Sittings.{kit-made};
+use crate::answer::Answer;
+use crate::turn::Begun;
+use crate::turn::MadeKit;
+use crate::turn::turn_loading;
+use crate::turn::turn_without_kit;
+use kit::loading::Loading;
+use std::alloc::AllocError;
+use std::alloc::Global;
+use wire::fault::Fault;
+use wire::link::Link;
+use wire::pool::PoolLink;
+use wire::queue::QueueLink;
+
+/// How many records a script has, one cut short included.
+fn count_records(script: &[u8]) -> usize
+    ensures { λ r. ⌜ r ≡ record-count (now (script .entry)) ⌝ }
+{
+    script.len().div_ceil(16)
+}
+
+/// A record of a script.
+fn read_record(script: &[u8], i: usize) -> &[u8]
+    requires { ⌜ i < record-count (now script) ⌝ }
+    ensures { λ r. ⌜ now r ≡ record-at (now (script .entry)) i ⌝ }
+{
+    let start = 16 * i;
+    let rest = script.len() - start;
+    let width = if rest < 16 { rest } else { 16 };
+    &script[start..start + width]
+}
+
+/// Does a record's first character name a kit?
+fn names_kit(text: &[u8]) -> bool
+    ensures { λ r. ⌜ r ≡ eqb (getD (now (text .entry)) 0 0) letter-K ⌝ }
+{
+    text.len() > 0 && text[0] == b'K'
+}
+
+/// Adds an answer to a listing.
+fn add_line(listing: &mut Vec<u8>, answer: Answer) -> Result<(), AllocError>
+    ensures { λ r. ⌜ made r (λ _. vec-items (now (listing .exit)) ≡ vec-items (now (listing .entry)) ++ text (line-of answer)) ⌝ }
+{
+    let text = answer.line().text();
+    listing.extend_from_slice(&text)?;
+    Ok(())
+}
+
+/// Adds a refusal to a listing, and says whether the program ends there.
+fn refuse(listing: &mut Vec<u8>, refused: &[u8], fault: Fault) -> Result<bool, AllocError>
+    ensures { λ r. ⌜ made r (λ ends. (vec-items (now (listing .exit)) ≡ vec-items (now (listing .entry)) ++ text (refused-line (number fault))) × (ends ≡ eqb (getD (now (refused .entry)) 0 0) letter-K)) ⌝ }
+{
+    add_line(listing, Answer::Refused { fault })?;
+    Ok(names_kit(refused))
+}
+
+/// Plays the records from `first` on with a kit that is loading.
+fn play_loading<L: Link + Drop>(
+    mut kit: Loading<L>,
+    script: &[u8],
+    first: usize,
+    listing: &mut Vec<u8>,
+) -> Result<(), AllocError>
+    ensures { λ r. ⌜ made r (λ _. vec-items (now (listing .exit)) ≡ vec-items (now (listing .entry)) ++ answers (loading (kit-of (kit .cluster))) (records-from (now (script .entry)) first)) ⌝ }
+{
+    for i in first..count_records(script) {
+        let text = read_record(script, i);
+        match turn_loading(&mut kit, text) {
+            Ok(answer) => add_line(listing, answer)?,
+            Err(fault) => {
+                if refuse(listing, text, fault)? {
+                    return Ok(());
+                }
+            }
+        }
+    }
+    Ok(())
+}
+
+/// Plays the records from `first` on with the kit that the record before them made.
+fn play_made(
+    kit: MadeKit,
+    script: &[u8],
+    first: usize,
+    listing: &mut Vec<u8>,
+) -> Result<(), AllocError>
+    ensures { λ r. ⌜ made r (λ _. vec-items (now (listing .exit)) ≡ vec-items (now (listing .entry)) ++ answers (loading (kit-made kit)) (records-from (now (script .entry)) first)) ⌝ }
+{
+    match kit {
+        MadeKit::OverQueue(kit) => play_loading(kit, script, first, listing),
+        MadeKit::OverPool(kit) => play_loading(kit, script, first, listing),
+    }
+}
+
+/// Plays a script from its start, where no kit is made.
+fn play_records(script: &[u8], listing: &mut Vec<u8>) -> Result<(), AllocError>
+    ensures { λ r. ⌜ made r (λ _. vec-items (now (listing .exit)) ≡ vec-items (now (listing .entry)) ++ answers no-kit (records-from (now (script .entry)) 0)) ⌝ }
+{
+    for i in 0..count_records(script) {
+        let text = read_record(script, i);
+        match turn_without_kit(text) {
+            Ok(begun) => {
+                let Begun { answer, kit } = begun;
+                add_line(listing, answer)?;
+                return play_made(kit, script, i + 1, listing);
+            }
+            Err(fault) => {
+                if refuse(listing, text, fault)? {
+                    return Ok(());
+                }
+            }
+        }
+    }
+    Ok(())
+}
+
+/// The listing of a whole script, from its bytes to the bytes of the answers.
+pub fn play(heap: Global, script: &[u8]) -> Result<Vec<u8>, AllocError>
+    ensures { λ r. ⌜ made r (λ v. vec-items v ≡ listing (now (script .entry))) ⌝ }
+{
+    let mut listing = Vec::new(heap);
+    play_records(script, &mut listing)?;
+    Ok(listing)
+}

@@ -1,0 +1,4 @@
+pub mod Bags
+pub mod Gaps
+pub mod Rows
+pub mod Bounds
