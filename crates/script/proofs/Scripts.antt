@@ -10,6 +10,7 @@ use Rattle.std.specs.Iters.{counting}
 use mathlib.Core.Bool.{Bool, cond, true, false}
 use lib.Dec.{eqb}
 use Rattle.std.proofs.shelf.Lists.{take-all, length-drop, append-assoc, append-nil}
+use Rattle.std.proofs.shelf.Tests.{cases-lt}
 use Rattle.script.specs.Records.{record-at, record-count, records-from, letter-K}
 use Rattle.script.specs.Lines.{line-of, refused-line, text}
 use Rattle.script.specs.Plays.{Bench, Turn, turn, accept, refuse, ends, answers}
@@ -19,11 +20,14 @@ use Rattle.script.specs.declared.answer.Answer.{Answer}
 pub begins-inside : (script : List ℕ) (i : ℕ) → i < record-count script → 16 * i < length script
 begins-inside script i h = omega (arith, div-add-mod (length script) 16, mod-lt (length script) {m = 16} (omega arith))
 
--- what is left where fewer than sixteen characters are is the whole record
-pub cut-short : (script : List ℕ) (i width : ℕ) → length script - 16 * i < 16 → width ≡ length script - 16 * i → take width (drop (16 * i) script) ≡ record-at script i
-cut-short script i width h e =
+-- as wide as what is left allows, a record is whole
+pub record-wide : (script : List ℕ) (i width : ℕ) → width ≡ min 16 (length script - 16 * i) → take width (drop (16 * i) script) ≡ record-at script i
+record-wide script i width e =
     let l = length-drop (16 * i) script in
-    take-all width (drop (16 * i) script) (omega arith) ∙ sym (take-all 16 (drop (16 * i) script) (omega arith))
+    ⊎-elim
+    (λ (h : length script - 16 * i < 16). take-all width (drop (16 * i) script) (omega arith) ∙ sym (take-all 16 (drop (16 * i) script) (omega arith)))
+    (λ (h : 16 ≤ length script - 16 * i). let full : width ≡ 16 = omega arith in ap (λ (n : ℕ). take n (drop (16 * i) script)) full)
+    (cases-lt (length script - 16 * i) 16)
 
 pub records-more : (script : List ℕ) (i : ℕ) → i < record-count script → records-from script i ≡ record-at script i ∷ records-from script (i + 1)
 records-more script i h =

@@ -20,13 +20,14 @@ use Rattle.script.specs.Lines.{line-of, refused-line, text}
 use Rattle.script.specs.declared.line.Line.{Line}
 use Rattle.script.specs.declared.call.Call.{Call}
 use Rattle.script.specs.declared.call.Call.the-variants.{Kit, Place, Load, Store, Deliver}
+use Rattle.script.specs.declared.call.LinkKind.{LinkKind}
 use Rattle.script.specs.declared.answer.Answer.{Answer}
 use Rattle.script.specs.declared.answer.Answer.the-variants.{Made, Placed}
 
--- no kit is made yet, or one is loading
+-- no kit is made yet, or one is loading over a link
 pub data Bench : Type 0 where
   no-kit : Bench
-  loading : kits.Kit → Bench
+  loading : LinkKind → kits.Kit → Bench
 
 -- what a record brings about: the line that answers it, the bench afterwards, and whether the record was refused
 pub record Turn : Type 0 where
@@ -54,16 +55,16 @@ out-of-place s = refuse s 18
 
 -- until a kit is made only K belongs, and after it none; P belongs while the kit is loading; L, S and D come with the running kit
 abbrev pub turn-of : Bench → Call → Turn
-turn-of no-kit (Kit n p link) = asked no-kit (making-questions n p largest-limit 0) (accept (Made n p link) (loading (kits.start-kit n p)))
+turn-of no-kit (Kit n p link) = asked no-kit (making-questions n p largest-limit 0) (accept (Made n p link) (loading link (kits.start-kit n p)))
 turn-of no-kit (Place a w) = out-of-place no-kit
 turn-of no-kit (Load b a) = out-of-place no-kit
 turn-of no-kit (Store b a w) = out-of-place no-kit
 turn-of no-kit (Deliver pick) = out-of-place no-kit
-turn-of (loading k) (Kit n p link) = out-of-place (loading k)
-turn-of (loading k) (Place a w) = asked (loading k) (place-questions (k .pages) a) (accept (Placed a w) (loading (kits.placed k a w)))
-turn-of (loading k) (Load b a) = out-of-place (loading k)
-turn-of (loading k) (Store b a w) = out-of-place (loading k)
-turn-of (loading k) (Deliver pick) = out-of-place (loading k)
+turn-of (loading link k) (Kit n p another) = out-of-place (loading link k)
+turn-of (loading link k) (Place a w) = asked (loading link k) (place-questions (k .pages) a) (accept (Placed a w) (loading link (kits.placed k a w)))
+turn-of (loading link k) (Load b a) = out-of-place (loading link k)
+turn-of (loading link k) (Store b a w) = out-of-place (loading link k)
+turn-of (loading link k) (Deliver pick) = out-of-place (loading link k)
 
 -- the form is asked first
 abbrev pub by-form : Bench → Option Call → Turn

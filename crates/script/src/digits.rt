@@ -1,5 +1,5 @@
 ghost use mathlib.Core.Path.{_≡_};
-ghost use Prim.Native.Nat.{_<_, _≤_, _^_};
+ghost use Prim.Native.Nat.{_+_, _*_, _<_, _≤_, _^_};
 ghost use lib.ListN.{length};
 ghost use Rattle.std.specs.Slices.{found};
 ghost use Rattle.script.specs.Digits.{digit-char, digit-of, digits, numeral};
@@ -17,6 +17,14 @@ fn digit(base: u32, c: u8) -> Option<u32>
     if value < base { Some(value) } else { None }
 }
 
+/// The number that one digit more makes of `n`.
+fn append(n: u32, base: u32, d: u32) -> u32
+    requires { ⌜ n * base + d < 2 ^ 32 ⌝ }
+    ensures { λ r. ⌜ r ≡ n * base + d ⌝ }
+{
+    n * base + d
+}
+
 /// The number that characters write, if each is a digit of the base.
 pub(crate) fn read_number(base: u32, text: &[u8]) -> Option<u32>
     requires { ⌜ base ^ length (now text) ≤ 2 ^ 32 ⌝ }
@@ -26,7 +34,7 @@ pub(crate) fn read_number(base: u32, text: &[u8]) -> Option<u32>
     let mut n = 0u32;
     for c in text {
         let d = digit(base, *c)?;
-        n = n * base + d;
+        n = append(n, base, d);
     }
     Some(n)
 }

@@ -17,12 +17,19 @@ impl Line {
     pub fn text(&self) -> [u8; 16]
         ensures { λ r. ⌜ r ≡ text (now (self .entry)) ⌝ }
     {
-        let mut text = [b'\n'; 16];
-        text[0] = self.letter;
-        write_number(&mut text[1..3], 10, self.two);
-        write_number(&mut text[3..6], 10, self.three);
-        write_number(&mut text[6..14], 16, self.eight);
-        write_number(&mut text[14..15], 16, self.hops);
-        text
+        set_out(self.letter, self.two, self.three, self.eight, self.hops)
     }
+}
+
+/// Sets a letter and its numbers out in sixteen characters.
+fn set_out(letter: u8, two: u32, three: u32, eight: u32, hops: u32) -> [u8; 16]
+    ensures { λ r. ⌜ r ≡ text (record { letter = letter; two = two; three = three; eight = eight; hops = hops }) ⌝ }
+{
+    let mut text = [b'\n'; 16];
+    text[0] = letter;
+    write_number(&mut text[1..3], 10, two);
+    write_number(&mut text[3..6], 10, three);
+    write_number(&mut text[6..14], 16, eight);
+    write_number(&mut text[14..15], 16, hops);
+    text
 }

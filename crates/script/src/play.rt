@@ -1,6 +1,6 @@
 ghost use mathlib.Core.Path.{_≡_};
 ghost use mathlib.Core.List.{_++_};
-ghost use Prim.Native.Nat.{_<_};
+ghost use Prim.Native.Nat.{_<_, min};
 ghost use lib.Dec.{eqb};
 ghost use lib.ListN.{getD};
 ghost use Rattle.std.specs.Of.Vec.{vec-items};
@@ -9,8 +9,9 @@ ghost use Rattle.script.specs.Records.{record-at, record-count, records-from, 
 ghost use Rattle.script.specs.Lines.{line-of, refused-line, text};
 ghost use Rattle.wire.specs.Faults.{number};
 ghost use Rattle.kit.specs.Kits.{kit-of};
+ghost use Rattle.script.specs.declared.call.LinkKind.{LinkKind};
 ghost use Rattle.script.specs.Plays.{no-kit, loading, answers, listing};
-ghost use Rattle.script.specs.Sittings.{kit-made};
+ghost use Rattle.script.specs.Sittings.{bench-of};
 use crate::answer::Answer;
 use crate::turn::Begun;
 use crate::turn::MadeKit;
@@ -31,14 +32,20 @@ fn count_records(script: &[u8]) -> usize
     script.len().div_ceil(16)
 }
 
+/// How many characters the next record has, where `rest` are left.
+fn record_width(rest: usize) -> usize
+    ensures { λ r. ⌜ r ≡ min 16 rest ⌝ }
+{
+    if rest < 16 { rest } else { 16 }
+}
+
 /// A record of a script.
 fn read_record(script: &[u8], i: usize) -> &[u8]
     requires { ⌜ i < record-count (now script) ⌝ }
     ensures { λ r. ⌜ now r ≡ record-at (now (script .entry)) i ⌝ }
 {
     let start = 16 * i;
-    let rest = script.len() - start;
-    let width = if rest < 16 { rest } else { 16 };
+    let width = record_width(script.len() - start);
     &script[start..start + width]
 }
 
@@ -73,7 +80,7 @@ fn play_loading<L: Link + Drop>(
     first: usize,
     listing: &mut Vec<u8>,
 ) -> Result<(), AllocError>
-    ensures { λ r. ⌜ made r (λ _. vec-items (now (listing .exit)) ≡ vec-items (now (listing .entry)) ++ answers (loading (kit-of (kit .cluster))) (records-from (now (script .entry)) first)) ⌝ }
+    ensures { λ r. ⌜ made r (λ _. (link : LinkKind) → vec-items (now (listing .exit)) ≡ vec-items (now (listing .entry)) ++ answers (loading link (kit-of (kit .cluster))) (records-from (now (script .entry)) first)) ⌝ }
 {
     for i in first..count_records(script) {
         let text = read_record(script, i);
@@ -96,7 +103,7 @@ fn play_made(
     first: usize,
     listing: &mut Vec<u8>,
 ) -> Result<(), AllocError>
-    ensures { λ r. ⌜ made r (λ _. vec-items (now (listing .exit)) ≡ vec-items (now (listing .entry)) ++ answers (loading (kit-made kit)) (records-from (now (script .entry)) first)) ⌝ }
+    ensures { λ r. ⌜ made r (λ _. vec-items (now (listing .exit)) ≡ vec-items (now (listing .entry)) ++ answers (bench-of kit) (records-from (now (script .entry)) first)) ⌝ }
 {
     match kit {
         MadeKit::OverQueue(kit) => play_loading(kit, script, first, listing),

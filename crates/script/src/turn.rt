@@ -7,7 +7,7 @@ ghost use Rattle.wire.specs.Links.{largest-limit};
 ghost use Rattle.kit.specs.Kits.{kit-of, start-kit};
 ghost use Rattle.kit.specs.Asked.{making-questions};
 ghost use Rattle.script.specs.Plays.{no-kit, loading, turn, accept, refuse, Turned};
-ghost use Rattle.script.specs.Sittings.{kit-made, link-made};
+ghost use Rattle.script.specs.Sittings.{bench-of, limit-of};
 use crate::answer::Answer;
 use crate::call::Call;
 use crate::call::LinkKind;
@@ -38,7 +38,7 @@ pub struct Begun {
 /// Makes a kit of `boards` boards and `pages` pages over an empty link of the largest limit.
 fn make_kit(boards: u8, pages: u32, link: LinkKind) -> Result<MadeKit, Fault>
     ensures refused { λ r. ⌜ refusal r ≡ first-no (making-questions boards pages largest-limit 0) ⌝ }
-    ensures made { λ r. ⌜ made r (λ k. (kit-made k ≡ start-kit boards pages) × (link-made k ≡ link)) ⌝ }
+    ensures made { λ r. ⌜ made r (λ k. (bench-of k ≡ loading link (start-kit boards pages)) × (limit-of k ≡ largest-limit)) ⌝ }
 {
     match link {
         LinkKind::Queue => Ok(MadeKit::OverQueue(
@@ -53,7 +53,7 @@ fn make_kit(boards: u8, pages: u32, link: LinkKind) -> Result<MadeKit, Fault>
 /// What a record brings about where no kit is made: only K belongs.
 pub fn turn_without_kit(text: &[u8]) -> Result<Begun, Fault>
     ensures { λ r. ⌜ Cases r
-        (λ b. turn no-kit (now (text .entry)) ≡ accept (b .answer) (loading (kit-made (b .kit))))
+        (λ b. (turn no-kit (now (text .entry)) ≡ accept (b .answer) (bench-of (b .kit))) × (limit-of (b .kit) ≡ largest-limit))
         (λ f. turn no-kit (now (text .entry)) ≡ refuse no-kit (number f)) ⌝ }
 {
     match read_call(text)? {
@@ -80,7 +80,7 @@ pub fn turn_without_kit(text: &[u8]) -> Result<Begun, Fault>
 
 /// What a record brings about where a kit is loading: only P belongs.
 pub fn turn_loading<L: Link + Drop>(kit: &mut Loading<L>, text: &[u8]) -> Result<Answer, Fault>
-    ensures turned { λ r. ⌜ Turned (turn (loading (kit-of (now (kit .entry) .cluster))) (now (text .entry))) r (loading (kit-of (now (kit .exit) .cluster))) ⌝ }
+    ensures turned { λ r. ⌜ ((link : LinkKind) → Turned (turn (loading link (kit-of (now (kit .entry) .cluster))) (now (text .entry))) r (loading link (kit-of (now (kit .exit) .cluster)))) ⌝ }
     ensures kept { λ r. ⌜ Cases r (λ _. now (kit .exit) .link ≡ now (kit .entry) .link) (λ _. now (kit .exit) ≡ now (kit .entry)) ⌝ }
 {
     match read_call(text)? {

@@ -6,7 +6,7 @@ use Prim.Native.Nat.{ℕ, _+_, _-_, _<_, _≤_}
 use native.Mathlib.Omega.{arith}
 use lib.ListN.{length, getD, set, take, drop}
 use Rattle.std.specs.Holes.{removed}
-use Rattle.std.proofs.shelf.Lists.{getD-set-same, getD-set-other, getD-read, getD-take, getD-drop, getD-append-left, getD-append-right, length-take-le, length-drop, length-append, same-lists, take-at}
+use Rattle.std.proofs.shelf.Lists.{getD-set-same, getD-set-other, getD-take, getD-drop, getD-append-left, getD-append-right, length-take-le, length-drop, length-append, same-lists, take-at}
 use Rattle.std.proofs.shelf.Edits.{length-removed, getD-removed-below, getD-removed-above}
 use Rattle.std.proofs.shelf.Tests.{cases-eq, cases-lt}
 use Rattle.wire.specs.Gaps.{closed}
@@ -18,12 +18,21 @@ pub record Moved {X : Type 0} (xs : List X) (i place : ℕ) (ys : List X) : Type
   pub rest : (k : ℕ) (d : X) → i ≤ k + 1 → getD ys k d ≡ getD xs k d
 
 -- one turn: the item at i moves up
-pub moved-more : {X : Type 0} (xs ys : List X) (i place : ℕ) (x : X) → place < i → i < length ys → x ≡ getD ys i x → Moved xs i place ys → Moved xs (i + 1) place (set ys (i - 1) x)
-moved-more xs ys i place x p l e c = record {
-  front = λ k d h. grind (arith, getD-set-other, c .front k d h);
-  moved = λ k d lo hi. grind (arith, cases-eq k (i - 1), getD-set-other, getD-set-same ys (i - 1) x d, getD-read ys i x l e d, c .moved k d, c .rest i d);
-  rest = λ k d h. grind (arith, getD-set-other, c .rest k d);
-}
+pub moved-more : {X : Type 0} (xs ys zs : List X) (i place : ℕ) → place < i → i < length ys → ((d : X) → zs ≡ set ys (i - 1) (getD ys i d)) → Moved xs i place ys → Moved xs (i + 1) place zs
+moved-more {X} xs ys zs i place p l e c =
+    let before : (k : ℕ) (d : X) → (k ≡ i - 1 → ⊥) → getD zs k d ≡ getD ys k d = λ k d n. ap (λ us. getD us k d) (e d) ∙ getD-set-other ys (i - 1) k (getD ys i d) d n in
+    let here : (d : X) → getD zs (i - 1) d ≡ getD ys i d = λ d. ap (λ us. getD us (i - 1) d) (e d) ∙ getD-set-same ys (i - 1) (getD ys i d) d (omega arith) in
+    record {
+      front = λ k d h. before k d (omega arith) ∙ c .front k d h;
+      moved = λ k d lo hi.
+          ⊎-elim
+          (λ (q : k ≡ i - 1).
+          let next : i ≡ k + 1 = omega arith in
+          ap (λ j. getD zs j d) q ∙ here d ∙ c .rest i d (omega arith) ∙ ap (λ j. getD xs j d) next)
+          (λ (q : k ≡ i - 1 → ⊥). before k d q ∙ c .moved k d lo (omega arith))
+          (cases-eq k (i - 1));
+      rest = λ k d h. before k d (omega arith) ∙ c .rest k d (omega arith);
+    }
 
 module _ {X : Type 0} (xs : List X) (n place : ℕ) (p : place < n) (l : n ≤ length xs) where
   length-front : length (removed (take n xs) place) ≡ n - 1

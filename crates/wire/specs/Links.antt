@@ -4,8 +4,8 @@ use mathlib.Core.Bool.{Bool}
 use mathlib.Core.List.{List, [], _∷_, _++_}
 use Prim.Native.Nat.{ℕ, _<_, _≤_}
 use lib.Dec.{ltb, eqb}
-use lib.ListN.{length, getD}
-use Rattle.std.specs.Holes.{removed}
+use lib.ListN.{length}
+use Rattle.std.specs.Holes.{inserted}
 use Rattle.std.specs.declared.option.Option.{Option}
 use Rattle.std.specs.declared.option.Option.the-variants.{None, Some}
 use Rattle.std.specs.declared.result.Result.{Result}
@@ -63,12 +63,7 @@ abbrev pub Joins : Message → Result (Unit {0}) Fault → List Message → List
 Joins m (Ok x) before after = after ≡ before ++ m ∷ []
 Joins m (Err e) before after = after ≡ before
 
--- the oldest message is taken
-abbrev pub Oldest : Option Message → List Message → List Message → Type 0
-Oldest None before after = (before ≡ []) × (after ≡ [])
-Oldest (Some m) before after = before ≡ m ∷ after
-
--- the message at a place is taken, and those behind it move up
+-- the message at a place is taken: put back there, it would stand where it stood
 abbrev pub Chosen : ℕ → Option Message → List Message → List Message → Type 0
 Chosen place None before after = (before ≡ []) × (after ≡ [])
-Chosen place (Some m) before after = (place < length before) × (m ≡ getD before place m) × (after ≡ removed before place)
+Chosen place (Some m) before after = (place < length before) × (before ≡ inserted after place m)

@@ -32,11 +32,10 @@ pub impl Link for Pool as PoolLink {
         ensures taken { λ r. ⌜ Taken (λ p. p .row .limit) (λ p. held (p .row)) (now (self .entry)) r (now (self .exit)) ⌝ }
         ensures choice { λ r. ⌜ Chosen (pick % length (row (now (self .entry) .row))) r (row (now (self .entry) .row)) (row (now (self .exit) .row)) ⌝ }
     {
-        let count = self.row.len();
-        if count == 0 {
+        if self.row.is_empty() {
             return None;
         }
-        Some(self.row.take_at(pick % count))
+        Some(self.row.take_at(pick % self.row.len()))
     }
 
     fn count(&self) -> u16 {

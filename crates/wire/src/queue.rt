@@ -1,6 +1,6 @@
 ghost use mathlib.Core.Path.{_≡_};
 ghost use Rattle.wire.specs.Rows.{row, held};
-ghost use Rattle.wire.specs.Links.{Posted, Taken, Joins, Oldest};
+ghost use Rattle.wire.specs.Links.{Posted, Taken, Joins, Chosen};
 use crate::fault::Fault;
 use crate::link::Link;
 use crate::message::Message;
@@ -28,9 +28,9 @@ pub impl Link for Queue as QueueLink {
 
     fn take(&mut self, _pick: u16) -> Option<Message>
         ensures taken { λ r. ⌜ Taken (λ q. q .row .limit) (λ q. held (q .row)) (now (self .entry)) r (now (self .exit)) ⌝ }
-        ensures choice { λ r. ⌜ Oldest r (row (now (self .entry) .row)) (row (now (self .exit) .row)) ⌝ }
+        ensures choice { λ r. ⌜ Chosen 0 r (row (now (self .entry) .row)) (row (now (self .exit) .row)) ⌝ }
     {
-        if self.row.len() == 0 {
+        if self.row.is_empty() {
             return None;
         }
         Some(self.row.take_at(0))

@@ -16,17 +16,14 @@ returns-in-Break-d c =
       bound = tt;
     })
 
-pub mul-n : need.mul-n
-mul-n c = omega (arith, fits-more (c .args .base) (c .loop-c .n) (c .in-Continue-d .d) (c .loop-c .c-index) (length (c .args .text .now)) (c .pre) (omega arith) (c .loop-c .inv .1) (c .in-Continue-d .ensures tt .bound))
-
-pub add-n : need.add-n
-add-n c = omega (arith, fits-more (c .args .base) (c .loop-c .n) (c .in-Continue-d .d) (c .loop-c .c-index) (length (c .args .text .now)) (c .pre) (omega arith) (c .loop-c .inv .1) (c .in-Continue-d .ensures tt .bound))
+pub append-n-requires : need.append-n-requires
+append-n-requires c κs = fits-more (c .args .base) (c .loop-c .n) (c .in-Continue-d .d) (c .loop-c .c-index) (length (c .args .text .now)) (c .pre) (omega arith) (c .loop-c .inv .1) (c .in-Continue-d .ensures tt .bound)
 
 pub loop-c-again : need.loop-c-again
-loop-c-again c = (
-  numeral-more (c .args .base) (c .args .text .now) (c .loop-c .c-index) (c .loop-c .n) _ (omega arith) refl _ (c .in-Continue-d .d) (c .in-Continue-d .ensures tt .value) (c .loop-c .inv .0),
-  bound-more (c .args .base) (c .loop-c .n) (c .in-Continue-d .d) (c .loop-c .c-index) (c .loop-c .inv .1) (c .in-Continue-d .ensures tt .bound),
-)
+loop-c-again c =
+    rw (c .append-n .ensures)
+        (numeral-more (c .args .base) (c .args .text .now) (c .loop-c .c-index) (c .loop-c .n) _ (omega arith) refl _ (c .in-Continue-d .d) (c .in-Continue-d .ensures tt .value) (c .loop-c .inv .0),
+         bound-more (c .args .base) (c .loop-c .n) (c .in-Continue-d .d) (c .loop-c .c-index) (c .loop-c .inv .1) (c .in-Continue-d .ensures tt .bound))
 
 pub returns : need.returns
 returns c =

@@ -6,15 +6,14 @@ use Rattle.std.specs.Of.Vec.{vec-items}
 use Rattle.std.proofs.shelf.Results.{made-weaker}
 use Rattle.wire.specs.Faults.{number}
 use Rattle.script.specs.Records.{record-count}
-use Rattle.script.specs.Plays.{no-kit, loading}
-use Rattle.script.specs.Sittings.{kit-made}
+use Rattle.script.specs.Plays.{no-kit}
 use Rattle.script.proofs.Scripts.{goes-on, goes-on-refused, ends-here}
 use Rattle.script.proofs.play.play_records.Needs as need
 
 pub returns-in-Ok : need.returns-in-Ok
 returns-in-Ok c =
     made-weaker (c .play-made .result) _ _ (λ _ e.
-    e ∙ goes-on (c .args .script .now) (c .loop-i .i) (omega arith) (c .read-record-text .result .now) (c .read-record-text .ensures) no-kit (vec-items (c .loop-i .listing)) _ (c .loop-i .inv) _ _ _ (c .in-Ok .ensures tt) (c .in-Continue-add-line .ensures tt))
+    e ∙ goes-on (c .args .script .now) (c .loop-i .i) (omega arith) (c .read-record-text .result .now) (c .read-record-text .ensures) no-kit (vec-items (c .loop-i .listing)) _ (c .loop-i .inv) _ _ _ (c .in-Ok .ensures tt .0) (c .in-Continue-add-line .ensures tt))
     (c .play-made .ensures)
 
 pub returns-then-branch : need.returns-then-branch

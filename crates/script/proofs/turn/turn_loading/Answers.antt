@@ -11,6 +11,6 @@ pub returns-in-Break-address : need.returns-in-Break-address
 returns-in-Break-address g c =
     let p = err-from-errBy (c .from-residual .result) (c .from-residual .ensures .1) in
     rw (p .1, p .2) (record {
-      turned = refused-form (loading (kit-of (c .args .kit .now .cluster))) (form (c .args .text .now)) _ (c .in-Break-address .ensures tt .refused);
+      turned = λ link. refused-form (loading link (kit-of (c .args .kit .now .cluster))) (form (c .args .text .now)) _ (c .in-Break-address .ensures tt .refused);
       kept = refl;
     })

@@ -5,7 +5,7 @@ use Rattle.wire.proofs.Gaps.{moved-more, moved-all}
 use Rattle.wire.proofs.gap.take_out.Needs as need
 
 pub loop-i-again : need.loop-i-again
-loop-i-again g c = moved-more _ _ _ _ _ (omega arith) (omega arith) (c .index-items-i .is) (c .loop-i .inv)
+loop-i-again g c = moved-more (c .args .items .now) (c .loop-i .items) (c .move-up .last .items) (c .loop-i .i) (c .args .place) (omega arith) (omega arith) (c .move-up .ensures) (c .loop-i .inv)
 
 pub returns : need.returns
 returns g c =

@@ -1,6 +1,0 @@
-use borrow.Author.Needs.{needs}
-use Rattle.wire.proofs.Bags.{size-bag, adds-push}
-use Rattle.wire.proofs.pool.PoolLink.post.Needs as need
-
-pub returns : need.returns
-returns c = search (needs, size-bag, adds-push)

@@ -1,6 +1,0 @@
-use mathlib.Core.Path.{sym, _∙_}
-use Rattle.wire.proofs.Bags.{size-bag}
-use Rattle.wire.proofs.queue.QueueLink.count.Needs as need
-
-pub returns : need.returns
-returns c = c .len .ensures ∙ sym (size-bag _)
