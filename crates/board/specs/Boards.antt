@@ -12,14 +12,14 @@ use Rattle.board.specs.declared.board.Board.{Board}
 abbrev pub queue : Waiting → List Request
 queue w = take (w .len) (w .requests)
 
-pub record Own : Type 0 where
+pub record BoardState : Type 0 where
   pub number : ℕ
   pub stage : Stage
   pub waiting : List Request
 
-abbrev pub own : Board → Own
-own b = record { number = b .number; stage = b .stage; waiting = queue (b .waiting) }
+abbrev pub state-of : Board → BoardState
+state-of b = record { number = b .number; stage = b .stage; waiting = queue (b .waiting) }
 
 -- a board as it starts: nothing is open, waiting or deferred
-abbrev pub start-board : ℕ → Own
-start-board number = record { number = number; stage = Idle; waiting = [] }
+abbrev pub start-state : ℕ → BoardState
+start-state number = record { number = number; stage = Idle; waiting = [] }

@@ -1,4 +1,4 @@
 pub mod Starts
 pub mod Places
 pub mod Memories
-pub mod Cases
+pub mod WorkedCases

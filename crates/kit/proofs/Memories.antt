@@ -39,7 +39,7 @@ shaped-put es a w h s =
 same-address : (x a : ℕ) → page-of x ≡ page-of a → place-of x ≡ place-of a → x ≡ a
 same-address x a p q = omega (arith, div-add-mod x 16, div-add-mod a 16)
 
-page-inside : (a p : ℕ) → p ≤ 16 → a < 16 * p → page-of a < 16
+pub page-inside : (a p : ℕ) → p ≤ 16 → a < 16 * p → page-of a < 16
 page-inside a p l h = omega (arith, div-add-mod a 16, mod-lt a {m = 16} (omega arith))
 
 word-put : (es : List PageEntry) (a w x : ℕ) → page-of a < 16 → Shaped es → word-at (with-word-at es a w) x ≡ cond (eqb x a) w (word-at es x)

@@ -1,4 +1,4 @@
 pub mod Kits
-pub mod Asked
+pub mod KitQuestions
 pub mod Memory
-pub mod Cases
+pub mod WorkedCases

@@ -6,13 +6,13 @@ use lone::table::PageTable;
 
 mod calls;
 
-/// The boards of a kit: how many boards and pages are in use, and for each board its own state and its page table.
+/// The boards of a kit: how many boards and pages it has, and for each board its own state and its page table.
 #[derive(Drop)]
 pub struct Cluster {
-    count: u8,
+    boards: u8,
     pages: u32,
-    boards: [Board; 16],
+    states: [Board; 16],
     tables: [PageTable; 16],
-    ghost few: { (count ≤ 16) × (pages ≤ 16) },
-    ghost whole: { (length boards ≡ 16) × (length tables ≡ 16) },
+    ghost bounded: { (boards ≤ 16) × (pages ≤ 16) },
+    ghost sixteen: { (length states ≡ 16) × (length tables ≡ 16) },
 }

@@ -1,5 +1,5 @@
 ghost use Rattle.kit.specs.Memory.{Placed-words};
-ghost use Rattle.kit.specs.Cases.{Worked-cases};
+ghost use Rattle.kit.specs.WorkedCases.{Worked-cases};
 use wire::link::Link;
 
 /// A kit begins with the words that were placed, else zeros.

@@ -4,7 +4,7 @@ ghost use Rattle.std.specs.Vec.{made};
 ghost use Rattle.wire.specs.Bags.{size};
 ghost use Rattle.wire.specs.Questions.{refusal, first-no};
 ghost use Rattle.kit.specs.Kits.{kit-of, start-kit, placed};
-ghost use Rattle.kit.specs.Asked.{making-questions, place-questions};
+ghost use Rattle.kit.specs.KitQuestions.{making-questions, place-questions};
 use crate::cluster::Cluster;
 use wire::fault::Fault;
 use wire::link::Link;

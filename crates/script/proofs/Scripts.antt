@@ -11,9 +11,14 @@ use mathlib.Core.Bool.{Bool, cond, true, false}
 use lib.Dec.{eqb}
 use Rattle.std.proofs.shelf.Lists.{take-all, length-drop, append-assoc, append-nil}
 use Rattle.std.proofs.shelf.Tests.{cases-lt}
-use Rattle.script.specs.Records.{record-at, record-count, records-from, letter-K}
+use Rattle.script.specs.Records.{record-at, record-count, records-from, form, letter-K}
 use Rattle.script.specs.Lines.{line-of, refused-line, text}
-use Rattle.script.specs.Plays.{Bench, Turn, turn, accept, refuse, ends, answers}
+use Rattle.std.specs.declared.option.Option.{Option}
+use Rattle.std.specs.declared.option.Option.the-variants.{None, Some}
+use Rattle.wire.specs.Questions.{first-no}
+use Rattle.script.specs.Digits.{and-then}
+use Rattle.script.specs.Plays.{Bench, Outcome, accepted, refused, decided, outcome, line, after, ends, answers, record-questions, carried-out}
+use Rattle.script.specs.declared.line.Line.{Line}
 use Rattle.script.specs.declared.answer.Answer.{Answer}
 
 -- a record begins inside the script
@@ -37,30 +42,34 @@ records-more script i h =
 pub records-none : (script : List ℕ) (i : ℕ) → record-count script ≤ i → records-from script i ≡ []
 records-none script i h = let k : record-count script - i ≡ 0 = omega arith in ap (λ n. map (record-at script) (counting i n)) k
 
--- The answers from record i on are to complete the listing. What stands in the listing after that record's own answer, by what its turn is:
+-- The answers from record i on are to complete the listing. What stands in the listing after that record's own line, by its outcome:
 module _ (script : List ℕ) (i : ℕ) (h : i < record-count script) (r : List ℕ) (at : r ≡ record-at script i) (s : Bench) (out all : List ℕ) (p : out ++ answers s (records-from script i) ≡ all) where
-  at-turn : (t : Turn) → turn s r ≡ t → out ++ (text (t .line) ++ cond (ends t r) [] (answers (t .bench) (records-from script (i + 1)))) ≡ all
-  at-turn t e =
-      ap (λ (u : Turn). out ++ (text (u .line) ++ cond (ends u r) [] (answers (u .bench) (records-from script (i + 1))))) (sym e)
+  at-outcome : (o : Outcome) → outcome s r ≡ o → out ++ (text (line o) ++ cond (ends o r) [] (answers (after s o) (records-from script (i + 1)))) ≡ all
+  at-outcome o e =
+      ap (λ (u : Outcome). out ++ (text (line u) ++ cond (ends u r) [] (answers (after s u) (records-from script (i + 1))))) (sym e)
       ∙ ap (λ (x : List ℕ). out ++ answers s (x ∷ records-from script (i + 1))) at
       ∙ ap (λ rs. out ++ answers s rs) (sym (records-more script i h)) ∙ p
 
-  -- it is accepted: the listing goes on
-  pub goes-on : (a : Answer) (after : Bench) (new : List ℕ) → turn s r ≡ accept a after → new ≡ out ++ text (line-of a) → new ++ answers after (records-from script (i + 1)) ≡ all
-  goes-on a after new e n =
-      ap (λ xs. xs ++ answers after (records-from script (i + 1))) n ∙ append-assoc out (text (line-of a)) (answers after (records-from script (i + 1))) ∙ at-turn (accept a after) e
+  -- it is carried out: the listing goes on
+  pub goes-on : (a : Answer) (next : Bench) (new : List ℕ) (l : Line) → None ≡ first-no (record-questions s (form r)) → and-then (form r) (carried-out s) ≡ Some (record { answer = a; bench = next }) → l ≡ line-of a → new ≡ out ++ text l → new ++ answers next (records-from script (i + 1)) ≡ all
+  goes-on a next new l q e m n =
+      ap (λ xs. xs ++ answers next (records-from script (i + 1))) (n ∙ ap (λ (x : Line). out ++ text x) m) ∙ append-assoc out (text (line-of a)) (answers next (records-from script (i + 1)))
+      ∙ at-outcome (accepted (record { answer = a; bench = next })) (ap (λ (o : Option ℕ). decided o (and-then (form r) (carried-out s))) (sym q) ∙ ap (decided None) e)
+
+  refusing : (f : ℕ) → Some f ≡ first-no (record-questions s (form r)) → outcome s r ≡ refused f
+  refusing f q = ap (λ (o : Option ℕ). decided o (and-then (form r) (carried-out s))) (sym q)
 
   -- it is refused and does not name a kit: it goes on too
-  pub goes-on-refused : (f : ℕ) (after : Bench) (new : List ℕ) (k : Bool) → turn s r ≡ refuse after f → new ≡ out ++ text (refused-line f) → k ≡ eqb (getD r 0 0) letter-K → k ≡ false → new ++ answers after (records-from script (i + 1)) ≡ all
-  goes-on-refused f after new k e n is no-K =
-      ap (λ xs. xs ++ answers after (records-from script (i + 1))) n ∙ append-assoc out (text (refused-line f)) (answers after (records-from script (i + 1)))
-      ∙ ap (λ b. out ++ (text (refused-line f) ++ cond b [] (answers after (records-from script (i + 1))))) (sym no-K ∙ is) ∙ at-turn (refuse after f) e
+  pub goes-on-refused : (f : ℕ) (new : List ℕ) (l : Line) (k : Bool) → Some f ≡ first-no (record-questions s (form r)) → l ≡ refused-line f → new ≡ out ++ text l → k ≡ eqb (getD r 0 0) letter-K → k ≡ false → new ++ answers s (records-from script (i + 1)) ≡ all
+  goes-on-refused f new l k q m n is no-K =
+      ap (λ xs. xs ++ answers s (records-from script (i + 1))) (n ∙ ap (λ (x : Line). out ++ text x) m) ∙ append-assoc out (text (refused-line f)) (answers s (records-from script (i + 1)))
+      ∙ ap (λ b. out ++ (text (refused-line f) ++ cond b [] (answers s (records-from script (i + 1))))) (sym no-K ∙ is) ∙ at-outcome (refused f) (refusing f q)
 
   -- it is refused and names a kit: the listing ends
-  pub ends-here : (f : ℕ) (after : Bench) (new : List ℕ) (k : Bool) → turn s r ≡ refuse after f → new ≡ out ++ text (refused-line f) → k ≡ eqb (getD r 0 0) letter-K → k ≡ true → new ≡ all
-  ends-here f after new k e n is names-K =
-      n ∙ ap (λ xs. out ++ xs) (sym (append-nil (text (refused-line f))))
-      ∙ ap (λ b. out ++ (text (refused-line f) ++ cond b [] (answers after (records-from script (i + 1))))) (sym names-K ∙ is) ∙ at-turn (refuse after f) e
+  pub ends-here : (f : ℕ) (new : List ℕ) (l : Line) (k : Bool) → Some f ≡ first-no (record-questions s (form r)) → l ≡ refused-line f → new ≡ out ++ text l → k ≡ eqb (getD r 0 0) letter-K → k ≡ true → new ≡ all
+  ends-here f new l k q m n is names-K =
+      (n ∙ ap (λ (x : Line). out ++ text x) m) ∙ ap (λ xs. out ++ xs) (sym (append-nil (text (refused-line f))))
+      ∙ ap (λ b. out ++ (text (refused-line f) ++ cond b [] (answers s (records-from script (i + 1))))) (sym names-K ∙ is) ∙ at-outcome (refused f) (refusing f q)
 
 -- after the last record nothing more is answered
 pub all-answered : (script : List ℕ) (i : ℕ) (s : Bench) (out all : List ℕ) → record-count script ≤ i → out ++ answers s (records-from script i) ≡ all → out ≡ all

@@ -2,4 +2,4 @@ pub mod Digits
 pub mod Records
 pub mod Lines
 pub mod Plays
-pub mod Sittings
+pub mod MadeKits

@@ -1,12 +1,11 @@
 -- The answers of a listing: sixteen characters each.
 use mathlib.Core.List.{List, [], _∷_, _++_}
 use Prim.Native.Nat.{ℕ}
-use Rattle.wire.specs.Faults.{number}
 use Rattle.script.specs.Digits.{digits}
 use Rattle.script.specs.Records.{link-number}
 use Rattle.script.specs.declared.line.Line.{Line}
 use Rattle.script.specs.declared.answer.Answer.{Answer}
-use Rattle.script.specs.declared.answer.Answer.the-variants.{Made, Placed, Refused}
+use Rattle.script.specs.declared.answer.Answer.the-variants.{Made, Placed}
 
 -- the letters A and X
 abbrev pub letter-A : ℕ
@@ -23,7 +22,6 @@ refused-line n = record { letter = letter-X; two = 0; three = n; eight = 0; hops
 abbrev pub line-of : Answer → Line
 line-of (Made boards pages link) = record { letter = letter-A; two = boards; three = pages; eight = link-number link; hops = 0 }
 line-of (Placed address word) = record { letter = letter-A; two = 0; three = address; eight = word; hops = 0 }
-line-of (Refused fault) = refused-line (number fault)
 
 -- a letter, two and three decimal digits, eight hexadecimal digits, one for hops, and a newline
 unfoldable pub text : Line → List ℕ

@@ -1,10 +1,11 @@
 ghost use mathlib.Core.Path.{_≡_};
-ghost use Rattle.script.specs.Lines.{line-of, letter-A};
+ghost use Rattle.wire.specs.Faults.{number};
+ghost use Rattle.script.specs.Lines.{line-of, refused-line, letter-A};
 use crate::call::LinkKind;
 use crate::line::Line;
 use wire::fault::Fault;
 
-/// What the bench answers to a record.
+/// What the bench answers to a record that it carries out.
 #[derive(Clone, Copy)]
 pub enum Answer {
     /// A kit was made.
@@ -18,14 +19,10 @@ pub enum Answer {
         address: u32,
         word: u32,
     },
-    /// The record was refused.
-    Refused {
-        fault: Fault,
-    },
 }
 
 impl Answer {
-    /// The line of the listing that says it.
+    /// The line that says it.
     pub fn line(&self) -> Line
         ensures { λ r. ⌜ r ≡ line-of (now (self .entry)) ⌝ }
     {
@@ -36,18 +33,11 @@ impl Answer {
                 link,
             } => answered(u32::from(boards), pages, link.number()),
             Answer::Placed { address, word } => answered(0, address, word),
-            Answer::Refused { fault } => Line {
-                letter: b'X',
-                two: 0,
-                three: u32::from(fault.number()),
-                eight: 0,
-                hops: 0,
-            },
         }
     }
 }
 
-/// A: the numbers of the record again.
+/// A, with the numbers of the record again.
 fn answered(two: u32, three: u32, eight: u32) -> Line
     ensures { λ r. ⌜ r ≡ record { letter = letter-A; two = two; three = three; eight = eight; hops = 0 } ⌝ }
 {
@@ -56,6 +46,19 @@ fn answered(two: u32, three: u32, eight: u32) -> Line
         two,
         three,
         eight,
+        hops: 0,
+    }
+}
+
+/// X, with the number of the refusal.
+pub fn refused(fault: Fault) -> Line
+    ensures { λ r. ⌜ r ≡ refused-line (number fault) ⌝ }
+{
+    Line {
+        letter: b'X',
+        two: 0,
+        three: u32::from(fault.number()),
+        eight: 0,
         hops: 0,
     }
 }

@@ -1,13 +1,17 @@
+ghost use mathlib.Core.List.{[]};
 ghost use mathlib.Core.Path.{_≡_};
 ghost use Rattle.std.specs.Results.{Cases};
-ghost use Rattle.wire.specs.Faults.{number};
 ghost use Rattle.std.specs.Vec.{made};
-ghost use Rattle.wire.specs.Questions.{refusal, first-no};
+ghost use Rattle.std.specs.declared.option.Option.the-variants.{Some};
 ghost use Rattle.wire.specs.Links.{largest-limit};
+ghost use Rattle.wire.specs.Questions.{refusal, first-no};
+ghost use Rattle.kit.specs.KitQuestions.{making-questions};
 ghost use Rattle.kit.specs.Kits.{kit-of, start-kit};
-ghost use Rattle.kit.specs.Asked.{making-questions};
-ghost use Rattle.script.specs.Plays.{no-kit, loading, turn, accept, refuse, Turned};
-ghost use Rattle.script.specs.Sittings.{bench-of, limit-of};
+ghost use Rattle.script.specs.Digits.{and-then};
+ghost use Rattle.script.specs.MadeKits.{bench-of, limit-of, messages-on};
+ghost use Rattle.script.specs.Plays.{no-kit, loading, record-questions, carried-out};
+ghost use Rattle.script.specs.Records.{form};
+ghost use Rattle.script.specs.declared.call.LinkKind.{LinkKind as Kind};
 use crate::answer::Answer;
 use crate::call::Call;
 use crate::call::LinkKind;
@@ -17,8 +21,10 @@ use wire::fault::Fault;
 use wire::link::LARGEST_LIMIT;
 use wire::link::Link;
 use wire::pool::Pool;
+use wire::pool::PoolChoice;
 use wire::pool::PoolLink;
 use wire::queue::Queue;
+use wire::queue::QueueChoice;
 use wire::queue::QueueLink;
 
 /// A kit just made, over the link that its record named.
@@ -28,9 +34,9 @@ pub enum MadeKit {
     OverPool(Loading<Pool>),
 }
 
-/// The first accepted record: its answer, and the kit that it made.
+/// The record that makes the kit: its answer, and the kit.
 #[derive(Drop)]
-pub struct Begun {
+pub struct FirstTurn {
     pub answer: Answer,
     pub kit: MadeKit,
 }
@@ -38,7 +44,7 @@ pub struct Begun {
 /// Makes a kit of `boards` boards and `pages` pages over an empty link of the largest limit.
 fn make_kit(boards: u8, pages: u32, link: LinkKind) -> Result<MadeKit, Fault>
     ensures refused { λ r. ⌜ refusal r ≡ first-no (making-questions boards pages largest-limit 0) ⌝ }
-    ensures made { λ r. ⌜ made r (λ k. (bench-of k ≡ loading link (start-kit boards pages)) × (limit-of k ≡ largest-limit)) ⌝ }
+    ensures made { λ r. ⌜ made r (λ k. (bench-of k ≡ loading link (start-kit boards pages)) × (limit-of k ≡ largest-limit) × (messages-on k ≡ [])) ⌝ }
 {
     match link {
         LinkKind::Queue => Ok(MadeKit::OverQueue(
@@ -50,11 +56,11 @@ fn make_kit(boards: u8, pages: u32, link: LinkKind) -> Result<MadeKit, Fault>
     }
 }
 
-/// What a record brings about where no kit is made: only K belongs.
-pub fn turn_without_kit(text: &[u8]) -> Result<Begun, Fault>
-    ensures { λ r. ⌜ Cases r
-        (λ b. (turn no-kit (now (text .entry)) ≡ accept (b .answer) (bench-of (b .kit))) × (limit-of (b .kit) ≡ largest-limit))
-        (λ f. turn no-kit (now (text .entry)) ≡ refuse no-kit (number f)) ⌝ }
+/// Carries out a record where no kit is made: only K belongs.
+pub fn turn_without_kit(text: &[u8]) -> Result<FirstTurn, Fault>
+    ensures refused { λ r. ⌜ refusal r ≡ first-no (record-questions no-kit (form (now (text .entry)))) ⌝ }
+    ensures done { λ r. ⌜ made r (λ t. and-then (form (now (text .entry))) (carried-out no-kit) ≡ Some (record { answer = t .answer; bench = bench-of (t .kit) })) ⌝ }
+    ensures link { λ r. ⌜ made r (λ t. (limit-of (t .kit) ≡ largest-limit) × (messages-on (t .kit) ≡ [])) ⌝ }
 {
     match read_call(text)? {
         Call::Kit {
@@ -63,7 +69,7 @@ pub fn turn_without_kit(text: &[u8]) -> Result<Begun, Fault>
             link,
         } => {
             let kit = make_kit(boards, pages, link)?;
-            Ok(Begun {
+            Ok(FirstTurn {
                 answer: Answer::Made {
                     boards,
                     pages,
@@ -78,9 +84,10 @@ pub fn turn_without_kit(text: &[u8]) -> Result<Begun, Fault>
     }
 }
 
-/// What a record brings about where a kit is loading: only P belongs.
+/// Carries out a record where a kit is loading, over whatever link: only P belongs.
 pub fn turn_loading<L: Link + Drop>(kit: &mut Loading<L>, text: &[u8]) -> Result<Answer, Fault>
-    ensures turned { λ r. ⌜ ((link : LinkKind) → Turned (turn (loading link (kit-of (now (kit .entry) .cluster))) (now (text .entry))) r (loading link (kit-of (now (kit .exit) .cluster)))) ⌝ }
+    ensures refused { λ r. ⌜ ((link : Kind) → refusal r ≡ first-no (record-questions (loading link (kit-of (now (kit .entry) .cluster))) (form (now (text .entry))))) ⌝ }
+    ensures done { λ r. ⌜ ((link : Kind) → made r (λ a. and-then (form (now (text .entry))) (carried-out (loading link (kit-of (now (kit .entry) .cluster)))) ≡ Some (record { answer = a; bench = loading link (kit-of (now (kit .exit) .cluster)) }))) ⌝ }
     ensures kept { λ r. ⌜ Cases r (λ _. now (kit .exit) .link ≡ now (kit .entry) .link) (λ _. now (kit .exit) ≡ now (kit .entry)) ⌝ }
 {
     match read_call(text)? {

@@ -1,4 +1,7 @@
+ghost use mathlib.Core.Path.{_≡_};
 ghost use Prim.Native.Nat.{min};
+ghost use Rattle.std.specs.Results.{Cases};
+use crate::choice::Choice;
 use crate::fault::Fault;
 use crate::link::Link;
 use crate::message::Message;
@@ -10,6 +13,12 @@ mod make;
 pub struct Cap<L: Link> {
     below: L,
     most: u16,
+}
+
+pub impl<L: Link> Choice for Cap<L> as CapChoice {
+    ghost joins = { λ c message r after. Cases r (λ _. L·Choice .joins (c .below) message r (after .below)) (λ _. after ≡ c) };
+
+    ghost chooses = { λ c pick r after. L·Choice .chooses (c .below) pick r (after .below) };
 }
 
 pub impl<L: Link> Link for Cap<L> as CapLink {

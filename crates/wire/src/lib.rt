@@ -1,5 +1,6 @@
 pub mod board_set;
 pub mod cap;
+pub mod choice;
 pub mod fault;
 pub mod gap;
 pub mod link;

@@ -2,7 +2,8 @@ ghost use mathlib.Core.Path.{_≡_};
 ghost use Prim.Native.Nat.{_%_};
 ghost use lib.ListN.{length};
 ghost use Rattle.wire.specs.Rows.{row, held};
-ghost use Rattle.wire.specs.Links.{Posted, Taken, Joins, Chosen};
+ghost use Rattle.wire.specs.Links.{Joins, Chosen};
+use crate::choice::Choice;
 use crate::fault::Fault;
 use crate::link::Link;
 use crate::message::Message;
@@ -16,22 +17,22 @@ pub struct Pool {
     row: Row,
 }
 
+pub impl Choice for Pool as PoolChoice {
+    ghost joins = { λ p message r after. Joins message r (row (p .row)) (row (after .row)) };
+
+    ghost chooses = { λ p pick r after. Chosen (pick % length (row (p .row))) r (row (p .row)) (row (after .row)) };
+}
+
 pub impl Link for Pool as PoolLink {
     ghost limit = { λ p. p .row .limit };
 
     ghost waiting = { λ p. held (p .row) };
 
-    fn post(&mut self, message: Message) -> Result<(), Fault>
-        ensures posted { λ r. ⌜ Posted (λ p. p .row .limit) (λ p. held (p .row)) (now (self .entry)) message r (now (self .exit)) ⌝ }
-        ensures order { λ r. ⌜ Joins message r (row (now (self .entry) .row)) (row (now (self .exit) .row)) ⌝ }
-    {
+    fn post(&mut self, message: Message) -> Result<(), Fault> {
         self.row.push(message)
     }
 
-    fn take(&mut self, pick: u16) -> Option<Message>
-        ensures taken { λ r. ⌜ Taken (λ p. p .row .limit) (λ p. held (p .row)) (now (self .entry)) r (now (self .exit)) ⌝ }
-        ensures choice { λ r. ⌜ Chosen (pick % length (row (now (self .entry) .row))) r (row (now (self .entry) .row)) (row (now (self .exit) .row)) ⌝ }
-    {
+    fn take(&mut self, pick: u16) -> Option<Message> {
         if self.row.is_empty() {
             return None;
         }

@@ -1,6 +1,7 @@
 ghost use mathlib.Core.Path.{_≡_};
 ghost use Rattle.wire.specs.Rows.{row, held};
-ghost use Rattle.wire.specs.Links.{Posted, Taken, Joins, Chosen};
+ghost use Rattle.wire.specs.Links.{Joins, Chosen};
+use crate::choice::Choice;
 use crate::fault::Fault;
 use crate::link::Link;
 use crate::message::Message;
@@ -14,22 +15,22 @@ pub struct Queue {
     row: Row,
 }
 
+pub impl Choice for Queue as QueueChoice {
+    ghost joins = { λ q message r after. Joins message r (row (q .row)) (row (after .row)) };
+
+    ghost chooses = { λ q pick r after. Chosen 0 r (row (q .row)) (row (after .row)) };
+}
+
 pub impl Link for Queue as QueueLink {
     ghost limit = { λ q. q .row .limit };
 
     ghost waiting = { λ q. held (q .row) };
 
-    fn post(&mut self, message: Message) -> Result<(), Fault>
-        ensures posted { λ r. ⌜ Posted (λ q. q .row .limit) (λ q. held (q .row)) (now (self .entry)) message r (now (self .exit)) ⌝ }
-        ensures order { λ r. ⌜ Joins message r (row (now (self .entry) .row)) (row (now (self .exit) .row)) ⌝ }
-    {
+    fn post(&mut self, message: Message) -> Result<(), Fault> {
         self.row.push(message)
     }
 
-    fn take(&mut self, _pick: u16) -> Option<Message>
-        ensures taken { λ r. ⌜ Taken (λ q. q .row .limit) (λ q. held (q .row)) (now (self .entry)) r (now (self .exit)) ⌝ }
-        ensures choice { λ r. ⌜ Chosen 0 r (row (now (self .entry) .row)) (row (now (self .exit) .row)) ⌝ }
-    {
+    fn take(&mut self, _pick: u16) -> Option<Message> {
         if self.row.is_empty() {
             return None;
         }

@@ -1,4 +1,4 @@
-use Rattle.kit.proofs.Cases.{worked-cases}
+use Rattle.kit.proofs.WorkedCases.{worked-cases}
 use Rattle.kit.proofs.laws.worked_cases.Needs as need
 
 pub returns : need.returns

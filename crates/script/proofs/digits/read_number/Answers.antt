@@ -21,9 +21,10 @@ append-n-requires c κs = fits-more (c .args .base) (c .loop-c .n) (c .in-Contin
 
 pub loop-c-again : need.loop-c-again
 loop-c-again c =
-    rw (c .append-n .ensures)
-        (numeral-more (c .args .base) (c .args .text .now) (c .loop-c .c-index) (c .loop-c .n) _ (omega arith) refl _ (c .in-Continue-d .d) (c .in-Continue-d .ensures tt .value) (c .loop-c .inv .0),
-         bound-more (c .args .base) (c .loop-c .n) (c .in-Continue-d .d) (c .loop-c .c-index) (c .loop-c .inv .1) (c .in-Continue-d .ensures tt .bound))
+    rw (c .append-n .ensures) (
+      numeral-more (c .args .base) (c .args .text .now) (c .loop-c .c-index) (c .loop-c .n) _ (omega arith) refl _ (c .in-Continue-d .d) (c .in-Continue-d .ensures tt .value) (c .loop-c .inv .0),
+      bound-more (c .args .base) (c .loop-c .n) (c .in-Continue-d .d) (c .loop-c .c-index) (c .loop-c .inv .1) (c .in-Continue-d .ensures tt .bound),
+    )
 
 pub returns : need.returns
 returns c =

@@ -15,7 +15,7 @@ use Rattle.wire.specs.Faults.{number}
 use Rattle.wire.specs.Links.{Posted, Taken, After-post}
 use Rattle.wire.specs.declared.fault.Fault.{Fault}
 use Rattle.wire.specs.declared.message.Message.{Message}
-use Rattle.kit.specs.Cases.{One-place, Worked-cases}
+use Rattle.kit.specs.WorkedCases.{Post, Take, Worked-cases}
 
 module _ {L : Type 0} (limit : L → ℕ) (waiting : L → Bag Message) where
   -- a post with a place free passes, and one more waits
@@ -42,17 +42,21 @@ module _ {L : Type 0} (limit : L → ℕ) (waiting : L → Bag Message) where
   frees s t None l e p = absurd (omega (arith, p .0 .1 (λ _. 1)))
   frees s t (Some m) l e p = (omega (arith, p .0 .1 (λ _. 1)), p .1 ∙ l)
 
-  one-place : (p : One-place limit waiting) → (refusal (p .posted-first) ≡ None) × (refusal (p .posted-second) ≡ Some 9) × (refusal (p .posted-last) ≡ None)
-  one-place p =
-      let a = passes (p .before) (p .first) (p .message) (p .posted-first) (p .limit-is) (p .empty) (p .posting-first) in
-      let b = refuses (p .first) (p .second) (p .message) (p .posted-second) (a .2) (a .1) (p .posting-second) in
-      let c = frees (p .second) (p .after-take) (p .taken) (ap limit (b .1) ∙ a .2) (ap (λ (x : L). size (waiting x)) (b .1) ∙ a .1) (p .taking) in
-      let d = passes (p .after-take) (p .last) (p .message) (p .posted-last) (c .1) (c .0) (p .posting-last) in
-      (a .0, b .0, d .0)
+  one-place : (a b c d e : L) → limit a ≡ 1 → size (waiting a) ≡ 0 → (first : Post limit waiting a b) (second : Post limit waiting b c) (take : Take limit waiting c d) (third : Post limit waiting d e) →
+      (refusal (first .answer) ≡ None) × (refusal (second .answer) ≡ Some 9) × (refusal (third .answer) ≡ None)
+  one-place a b c d e l z first second take third =
+      let p = passes a b (first .message) (first .answer) l z (first .posted) in
+      let q = refuses b c (second .message) (second .answer) (p .2) (p .1) (second .posted) in
+      let r = frees c d (take .answer) (ap limit (q .1) ∙ p .2) (ap (λ (x : L). size (waiting x)) (q .1) ∙ p .1) (take .taken) in
+      let s = passes d e (third .message) (third .answer) (r .1) (r .0) (third .posted) in
+      (p .0, q .0, s .0)
 
-  nothing-waits : (before after : L) (taken : Option Message) → size (waiting before) ≡ 0 → Taken limit waiting before taken after → (taken ≡ None) × (after ≡ before)
-  nothing-waits s t None e p = (refl, p .1)
-  nothing-waits s t (Some m) e p = absurd (omega (arith, p .0 .1 (λ _. 1)))
+  says-nothing : (s t : L) (r : Option Message) → size (waiting s) ≡ 0 → Taken limit waiting s r t → (r ≡ None) × (t ≡ s)
+  says-nothing s t None e p = (refl, p .1)
+  says-nothing s t (Some m) e p = absurd (omega (arith, p .0 .1 (λ _. 1)))
+
+  nothing-waits : (a b : L) → size (waiting a) ≡ 0 → (take : Take limit waiting a b) → (take .answer ≡ None) × (b ≡ a)
+  nothing-waits a b z take = says-nothing a b (take .answer) z (take .taken)
 
   pub worked-cases : Worked-cases limit waiting
   worked-cases = record {

@@ -10,27 +10,19 @@ use Rattle.wire.specs.Questions.{first-no, refusal}
 use Rattle.wire.specs.Links.{Posted, Taken}
 use Rattle.wire.specs.declared.fault.Fault.{Fault}
 use Rattle.wire.specs.declared.message.Message.{Message}
-use Rattle.kit.specs.Asked.{making-questions, place-questions}
+use Rattle.kit.specs.KitQuestions.{making-questions, place-questions}
 
 module _ {L : Type 0} (limit : L → ℕ) (waiting : L → Bag Message) where
-  -- three posts on an empty link of limit 1, and a take between the last two
-  pub record One-place : Type 0 where
-    pub before : L
-    pub first : L
-    pub second : L
-    pub after-take : L
-    pub last : L
+  -- a post, with its message, its answer and the links before and after
+  pub record Post (before after : L) : Type 0 where
     pub message : Message
-    pub posted-first : Result (Unit {0}) Fault
-    pub posted-second : Result (Unit {0}) Fault
-    pub taken : Option Message
-    pub posted-last : Result (Unit {0}) Fault
-    pub limit-is : limit before ≡ 1
-    pub empty : size (waiting before) ≡ 0
-    pub posting-first : Posted limit waiting before message posted-first first
-    pub posting-second : Posted limit waiting first message posted-second second
-    pub taking : Taken limit waiting second taken after-take
-    pub posting-last : Posted limit waiting after-take message posted-last last
+    pub answer : Result (Unit {0}) Fault
+    pub posted : Posted limit waiting before message answer after
+
+  -- a take, likewise
+  pub record Take (before after : L) : Type 0 where
+    pub answer : Option Message
+    pub taken : Taken limit waiting before answer after
 
   pub record Worked-cases : Type 0 where
     -- a kit of 16 boards wants a link of limit 272
@@ -40,6 +32,7 @@ module _ {L : Type 0} (limit : L → ℕ) (waiting : L → Bag Message) where
     pub last-address : first-no (place-questions 16 255) ≡ None
     pub past-address : first-no (place-questions 16 256) ≡ Some 2
     -- on a link of limit 1 the second post is refused, and after a take it passes
-    pub one-place : (p : One-place) → (refusal (p .posted-first) ≡ None) × (refusal (p .posted-second) ≡ Some 9) × (refusal (p .posted-last) ≡ None)
+    pub one-place : (a b c d e : L) → limit a ≡ 1 → size (waiting a) ≡ 0 → (first : Post a b) (second : Post b c) (take : Take c d) (third : Post d e) →
+        (refusal (first .answer) ≡ None) × (refusal (second .answer) ≡ Some 9) × (refusal (third .answer) ≡ None)
     -- a take on an empty link says that nothing waits, and changes nothing
-    pub nothing-waits : (before after : L) (taken : Option Message) → size (waiting before) ≡ 0 → Taken limit waiting before taken after → (taken ≡ None) × (after ≡ before)
+    pub nothing-waits : (a b : L) → size (waiting a) ≡ 0 → (take : Take a b) → (take .answer ≡ None) × (b ≡ a)

@@ -1,0 +1,3 @@
+pub mod piles;
+#[cfg(test)]
+mod tests;

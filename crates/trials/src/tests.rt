@@ -1,0 +1,3 @@
+mod kits;
+mod links;
+mod records;
