@@ -4,11 +4,13 @@ ghost use Rattle.std.specs.Results.{Cases};
 ghost use Rattle.std.specs.declared.result.Result.the-variants.{Ok};
 ghost use Rattle.wire.specs.Bags.{_&_};
 use wire::cap::Cap;
+use wire::cap::CapChoice;
 use wire::cap::CapLink;
 use wire::fault::Fault;
 use wire::link::Link;
 use wire::message::Message;
 use wire::pool::Pool;
+use wire::pool::PoolChoice;
 use wire::pool::PoolLink;
 
 /// Posts a message on any link, and takes one.
@@ -17,9 +19,10 @@ pub fn exchange<L: Link>(
     message: Message,
     pick: u16,
 ) -> Result<Option<Message>, Fault>
-    ensures { λ r. ⌜ Cases r
+    ensures exchanged { λ r. ⌜ Cases r
         (λ taken. found taken (λ m. message & waiting (now (link .entry)) ≡ m & waiting (now (link .exit))))
         (λ _. now (link .exit) ≡ now (link .entry)) ⌝ }
+    ensures limit { λ _. ⌜ limit (now (link .exit)) ≡ limit (now (link .entry)) ⌝ }
 {
     link.post(message)?;
     Ok(link.take(pick))

@@ -1,11 +1,14 @@
 use kit::loading::Loading;
 use std::test::*;
 use wire::fault::Fault;
+use wire::fault::FaultDebug;
 use wire::link::Link;
 use wire::message::Message;
 use wire::pool::Pool;
+use wire::pool::PoolChoice;
 use wire::pool::PoolLink;
 use wire::queue::Queue;
+use wire::queue::QueueChoice;
 use wire::queue::QueueLink;
 
 fn refusal<T: Drop>(r: Result<T, Fault>) -> u16 {

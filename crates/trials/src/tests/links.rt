@@ -1,12 +1,16 @@
 use std::test::*;
 use wire::cap::Cap;
+use wire::cap::CapChoice;
 use wire::cap::CapLink;
 use wire::fault::Fault;
+use wire::fault::FaultDebug;
 use wire::link::Link;
 use wire::message::Message;
 use wire::pool::Pool;
+use wire::pool::PoolChoice;
 use wire::pool::PoolLink;
 use wire::queue::Queue;
+use wire::queue::QueueChoice;
 use wire::queue::QueueLink;
 
 /// The number of a refusal, or 0.
