@@ -3,3 +3,4 @@ pub mod Records
 pub mod Lines
 pub mod Plays
 pub mod MadeKits
+pub mod Laws
