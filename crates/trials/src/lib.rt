@@ -1,3 +1,4 @@
+pub mod one_place;
 pub mod piles;
 #[cfg(test)]
 mod tests;
