@@ -1,20 +1,20 @@
 -- What is placed is what the memory holds.
 use mathlib.Core.Path.{_≡_, refl, ap, sym, subst, _∙_}
-use mathlib.Core.Bool.{cond, true, false}
+use mathlib.Core.Bool.{cond}
 use mathlib.Core.List.{List, [], _∷_}
 use mathlib.Core.Logic.{⊎-elim}
-use Prim.Native.Nat.{ℕ, _*_, _/_, _%_, _<_, _≤_}
+use Prim.Native.Nat.{ℕ, _*_, _<_, _≤_}
 use native.Mathlib.Nat.{div-add-mod, mod-lt}
 use native.Mathlib.Omega.{arith}
 use lib.Dec.{eqb}
 use lib.ListN.{length, getD, set}
 use Rattle.std.proofs.shelf.Lists.{getD-set-same, getD-set-other, length-set, length-replicate, getD-replicate}
 use Rattle.std.proofs.shelf.Tests.{cases-eq, eq-eqb, ne-eqb}
-use Rattle.board.specs.Entries.{start-entry, with-word, zeros}
+use Rattle.board.specs.Entries.{start-entry, with-word}
 use Rattle.board.specs.declared.entry.PageEntry.{PageEntry}
 use Rattle.lone.specs.Tables.{start-table, entry-at, no-entry, word-at, with-word-at, page-of, place-of}
-use Rattle.kit.specs.Kits.{start-kit, placed, table-of}
-use Rattle.kit.specs.Memory.{Placement, array, after-placing, In-range, memory, Placed-words}
+use Rattle.kit.specs.Kits.{placed, table-of}
+use Rattle.kit.specs.Memory.{Placement, after-placing, In-range, memory, Placed-words}
 
 -- sixteen pages of sixteen words
 pub record Shaped (es : List PageEntry) : Type 0 where

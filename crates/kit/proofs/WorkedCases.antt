@@ -1,7 +1,7 @@
 -- The worked cases hold.
 use mathlib.Core.Path.{_≡_, refl, ap, _∙_}
 use mathlib.Core.Bool.{cond, true, false}
-use Prim.Native.Nat.{ℕ, _+_}
+use Prim.Native.Nat.{ℕ}
 use native.Mathlib.Omega.{arith}
 use lib.Dec.{ltb}
 use Rattle.std.specs.declared.option.Option.{Option}
@@ -10,9 +10,9 @@ use Rattle.std.specs.declared.result.Result.{Result}
 use Rattle.std.specs.declared.result.Result.the-variants.{Ok, Err}
 use Rattle.std.proofs.shelf.Tests.{lt-ltb, le-ltb}
 use Rattle.wire.specs.Bags.{Bag, size}
-use Rattle.wire.specs.Questions.{first-no, refusal}
+use Rattle.wire.specs.Questions.{refusal}
 use Rattle.wire.specs.Faults.{number}
-use Rattle.wire.specs.Links.{Posted, Taken, After-post}
+use Rattle.wire.specs.Links.{Posted, Taken}
 use Rattle.wire.specs.declared.fault.Fault.{Fault}
 use Rattle.wire.specs.declared.message.Message.{Message}
 use Rattle.kit.specs.WorkedCases.{Post, Take, Worked-cases}

@@ -1,15 +1,13 @@
 -- Listings are lines, and accepted records are echoed.
-use mathlib.Core.Bool.{Bool, true, false, cond, _&&_}
+use mathlib.Core.Bool.{Bool, true, false, cond}
 use mathlib.Core.List.{List, [], _∷_, _++_}
 use mathlib.Core.Path.{_≡_, refl, ap, sym, _∙_}
 use Prim.Native.Nat.{ℕ, _+_, _-_, _*_, _<_, _≤_}
-use lib.Dec.{eqb}
-use lib.ListN.{length, getD, take, drop}
+use lib.ListN.{length, getD}
 use native.Mathlib.Omega.{arith}
 use borrow.Author.Needs.{needs}
 use Rattle.std.proofs.shelf.Counted.{length-map-counting}
-use Rattle.std.proofs.shelf.Lists.{length-append, length-take-le, length-drop, append-assoc, same-lists, places}
-use Rattle.std.proofs.shelf.Tests.{and-parts, eqb-true, cases-bool, cond-true, cond-false}
+use Rattle.std.proofs.shelf.Lists.{length-append, append-assoc, same-lists, places}
 use Rattle.std.proofs.shelf.Ways.{tells}
 use Rattle.std.specs.Holes.{between}
 use Rattle.std.specs.declared.option.Option.{Option}
@@ -18,7 +16,7 @@ use Rattle.wire.specs.Questions.{first-no}
 use Rattle.script.specs.Digits.{and-then, digits, numeral}
 use Rattle.script.specs.Laws.{Echoed, Whole-lines}
 use Rattle.script.specs.Lines.{line-of, text, letter-A}
-use Rattle.script.specs.Plays.{Bench, no-kit, loading, Done, Outcome, accepted, refused, decided, record-questions, carried-out, outcome, line, after, ends, answers}
+use Rattle.script.specs.Plays.{Bench, no-kit, loading, Done, accepted, decided, record-questions, carried-out, outcome, line, after, ends, answers}
 use Rattle.script.specs.Records.{record-at, record-count, records, form, framed, numbers-of, call-of, link-number}
 use Rattle.script.specs.declared.answer.Answer.{Answer}
 use Rattle.script.specs.declared.answer.Answer.the-variants.{Made, Placed}

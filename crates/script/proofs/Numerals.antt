@@ -1,7 +1,7 @@
 -- Reading a number, character by character, and writing one, digit by digit.
-use mathlib.Core.Path.{_≡_, refl, ap, sym, _∙_}
+use mathlib.Core.Path.{_≡_, ap, sym, _∙_}
 use mathlib.Core.List.{List, [], _∷_, _++_, append-assoc}
-use Prim.Native.Nat.{ℕ, zero, suc, _+_, _-_, _*_, _/_, _%_, _^_, _<_, _≤_}
+use Prim.Native.Nat.{ℕ, suc, _+_, _-_, _*_, _/_, _%_, _^_, _<_, _≤_}
 use native.Mathlib.Nat.{add-mul, mul-le-mul-right, pow-suc, pow-le-pow-right}
 use native.Mathlib.Numerals.{add-one}
 use native.Mathlib.Omega.{arith}
@@ -9,7 +9,7 @@ use lib.ListN.{length, getD, drop, set}
 use Rattle.std.specs.declared.option.Option.{Option}
 use Rattle.std.specs.declared.option.Option.the-variants.{None, Some}
 use Rattle.std.proofs.shelf.Lists.{at-drop-more, at-drop-all, drop-set, drop-all, append-nil}
-use Rattle.script.specs.Digits.{and-then, digit-of, digit-char, digits, numeral, numeral-after}
+use Rattle.script.specs.Digits.{and-then, digit-of, digit-char, digits, numeral-after}
 
 module _ (base : ℕ) (text : List ℕ) (i n c : ℕ) (h : i < length text) (at : c ≡ getD text i 0) (all : Option ℕ) where
   here : numeral-after base n (drop i text) ≡ and-then (digit-of base c) (λ d. numeral-after base (n * base + d) (drop (i + 1) text))

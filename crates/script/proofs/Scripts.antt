@@ -1,9 +1,8 @@
 -- The records of a script, one after another.
-use mathlib.Core.Path.{_≡_, refl, ap, sym, _∙_}
+use mathlib.Core.Path.{_≡_, ap, sym, _∙_}
 use mathlib.Core.List.{List, [], _∷_, _++_, map}
 use mathlib.Core.Logic.{⊎-elim}
-use Prim.Native.Nat.{ℕ, zero, suc, _+_, _-_, _*_, _/_, _%_, _<_, _≤_, min}
-use native.Mathlib.Nat.{div-add-mod, mod-lt}
+use Prim.Native.Nat.{ℕ, suc, _+_, _-_, _*_, _<_, _≤_, min}
 use native.Mathlib.Omega.{arith}
 use lib.ListN.{length, getD, take, drop}
 use Rattle.std.specs.Iters.{counting}
@@ -21,10 +20,6 @@ use Rattle.script.specs.Plays.{Bench, Outcome, accepted, refused, decided, out
 use Rattle.script.specs.declared.line.Line.{Line}
 use Rattle.script.specs.declared.answer.Answer.{Answer}
 
--- a record begins inside the script
-pub begins-inside : (script : List ℕ) (i : ℕ) → i < record-count script → 16 * i < length script
-begins-inside script i h = omega (arith, div-add-mod (length script) 16, mod-lt (length script) {m = 16} (omega arith))
-
 -- as wide as what is left allows, a record is whole
 pub record-wide : (script : List ℕ) (i width : ℕ) → width ≡ min 16 (length script - 16 * i) → take width (drop (16 * i) script) ≡ record-at script i
 record-wide script i width e =
@@ -38,9 +33,6 @@ pub records-more : (script : List ℕ) (i : ℕ) → i < record-count script →
 records-more script i h =
     let k : record-count script - i ≡ suc (record-count script - (i + 1)) = omega arith in
     ap (λ n. map (record-at script) (counting i n)) k
-
-pub records-none : (script : List ℕ) (i : ℕ) → record-count script ≤ i → records-from script i ≡ []
-records-none script i h = let k : record-count script - i ≡ 0 = omega arith in ap (λ n. map (record-at script) (counting i n)) k
 
 -- The answers from record i on are to complete the listing. What stands in the listing after that record's own line, by its outcome:
 module _ (script : List ℕ) (i : ℕ) (h : i < record-count script) (r : List ℕ) (at : r ≡ record-at script i) (s : Bench) (out all : List ℕ) (p : out ++ answers s (records-from script i) ≡ all) where
@@ -70,7 +62,3 @@ module _ (script : List ℕ) (i : ℕ) (h : i < record-count script) (r : List �
   ends-here f new l k q m n is names-K =
       (n ∙ ap (λ (x : Line). out ++ text x) m) ∙ ap (λ xs. out ++ xs) (sym (append-nil (text (refused-line f))))
       ∙ ap (λ b. out ++ (text (refused-line f) ++ cond b [] (answers s (records-from script (i + 1))))) (sym names-K ∙ is) ∙ at-outcome (refused f) (refusing f q)
-
--- after the last record nothing more is answered
-pub all-answered : (script : List ℕ) (i : ℕ) (s : Bench) (out all : List ℕ) → record-count script ≤ i → out ++ answers s (records-from script i) ≡ all → out ≡ all
-all-answered script i s out all h p = sym (append-nil out) ∙ ap (λ rs. out ++ answers s rs) (sym (records-none script i h)) ∙ p

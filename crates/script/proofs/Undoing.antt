@@ -1,5 +1,4 @@
 -- Reading and writing numbers undo each other.
-use mathlib.Core.Bool.{true, false, cond}
 use mathlib.Core.List.{List, [], _∷_, _++_}
 use mathlib.Core.Path.{_≡_, refl, ap, sym, subst, _∙_}
 use Prim.Native.Nat.{ℕ, zero, suc, _+_, _-_, _*_, _/_, _%_, _^_, _<_, _≤_}
@@ -13,8 +12,7 @@ use Rattle.std.proofs.shelf.Lists.{take-more, take-all}
 use Rattle.std.proofs.shelf.Ways.{tells}
 use Rattle.std.specs.declared.option.Option.{Option}
 use Rattle.std.specs.declared.option.Option.the-variants.{None, Some}
-use Rattle.wire.specs.Questions.{inside}
-use Rattle.script.specs.Digits.{and-then, below, digit-char, digit-of, digits, numeral, numeral-after}
+use Rattle.script.specs.Digits.{and-then, digit-char, digit-of, digits, numeral, numeral-after}
 use Rattle.script.specs.Laws.{Read-back, Written-back}
 use Rattle.script.proofs.Options.{impossible}
 

@@ -1,15 +1,11 @@
 -- Laws of bags.
-use mathlib.Core.Path.{_≡_, refl, ap, sym, _∙_}
+use mathlib.Core.Path.{_≡_, refl, ap, _∙_}
 use mathlib.Core.List.{List, [], _∷_, _++_}
-use Prim.Native.Nat.{ℕ, zero, suc, _+_, _<_, _≤_}
+use Prim.Native.Nat.{ℕ, zero, suc, _+_, _<_}
 use native.Mathlib.Omega.{arith}
-use native.Mathlib.Numerals.{one-add}
 use lib.ListN.{length, getD}
 use Rattle.std.specs.Holes.{removed}
 use Rattle.wire.specs.Bags.{Bag, empty, _&_, either-order, total, size, bag, Adds, Empty}
-
-pub never-empty : {X : Type 0} (x : X) (b : Bag X) → x & b ≡ empty → ⊥
-never-empty x b e = omega (arith, ap size e)
 
 pub swap : {X : Type 0} (x y : X) (b : Bag X) → x & y & b ≡ y & x & b
 swap x y b = λ i. either-order x y b i
@@ -43,6 +39,3 @@ adds-removed xs ys i x h e f = let b = bag-removed xs i x h in adds (cc)
 pub empty-list : {X : Type 0} (xs : List X) → length xs ≡ 0 → Empty (bag xs)
 empty-list [] e = is-empty refl
 empty-list (x ∷ xs) e = absurd (omega arith)
-
-pub empty-nil : {X : Type 0} (xs : List X) → xs ≡ [] → Empty (bag xs)
-empty-nil xs e = is-empty (ap bag e)

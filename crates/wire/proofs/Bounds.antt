@@ -1,6 +1,6 @@
 -- Never do more messages wait than the limit.
-use mathlib.Core.Path.{_≡_, sym, ap, subst}
-use Prim.Native.Nat.{ℕ, _+_, _≤_}
+use mathlib.Core.Path.{sym, subst}
+use Prim.Native.Nat.{ℕ, _≤_}
 use native.Mathlib.Omega.{arith}
 use Rattle.std.specs.declared.option.Option.{Option}
 use Rattle.std.specs.declared.option.Option.the-variants.{None, Some}
@@ -8,7 +8,7 @@ use Rattle.std.specs.declared.result.Result.{Result}
 use Rattle.std.specs.declared.result.Result.the-variants.{Ok, Err}
 use Rattle.std.proofs.shelf.Ways.{tells}
 use Rattle.wire.specs.Bags.{Bag, size}
-use Rattle.wire.specs.Links.{Posted, Taken, Used, unused, posting, taking, Never-over}
+use Rattle.wire.specs.Links.{Posted, Taken, unused, posting, taking, Never-over}
 use Rattle.wire.specs.declared.fault.Fault.{Fault}
 use Rattle.wire.specs.declared.message.Message.{Message}
 

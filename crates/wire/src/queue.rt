@@ -1,4 +1,3 @@
-ghost use mathlib.Core.Path.{_≡_};
 ghost use Rattle.wire.specs.Rows.{row, held};
 ghost use Rattle.wire.specs.Links.{Joins, Chosen};
 use crate::choice::Choice;

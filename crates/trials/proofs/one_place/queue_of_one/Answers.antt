@@ -1,4 +1,3 @@
-use Rattle.wire.specs.Bags.{size}
 use Rattle.wire.specs.Rows.{row, held}
 use Rattle.wire.specs.declared.queue.Queue.{Queue}
 use Rattle.kit.proofs.WorkedCases.{worked-cases}

@@ -1,8 +1,6 @@
 use borrow.Author.Needs.{needs}
 use mathlib.Core.List.{map}
 use mathlib.Core.Path.{ap}
-use native.Mathlib.Nat.{div-add-mod, mod-lt}
-use native.Mathlib.Omega.{arith}
 use Rattle.board.specs.Boards.{state-of}
 use Rattle.kit.proofs.Memories.{page-inside}
 use Rattle.kit.proofs.Places.{placed-tables}

@@ -1,7 +1,7 @@
 use mathlib.Core.Path.{_≡_, refl, sym, ap, _∙_}
 use native.Mathlib.Omega.{arith}
 use Prim.Native.Nat.{_<_, _-_}
-use lib.ListN.{length, getD, take}
+use lib.ListN.{getD, take}
 use Rattle.std.specs.Holes.{removed, inserted}
 use Rattle.std.proofs.shelf.Lists.{length-take-le, getD-take}
 use Rattle.wire.specs.Rows.{row}
