@@ -1,6 +1,6 @@
+use super::refusal;
 use kit::loading::Loading;
 use std::test::*;
-use wire::fault::Fault;
 use wire::fault::FaultDebug;
 use wire::link::Link;
 use wire::message::Message;
@@ -10,13 +10,6 @@ use wire::pool::PoolLink;
 use wire::queue::Queue;
 use wire::queue::QueueChoice;
 use wire::queue::QueueLink;
-
-fn refusal<T: Drop>(r: Result<T, Fault>) -> u16 {
-    match r {
-        Ok(_) => 0,
-        Err(fault) => fault.number(),
-    }
-}
 
 #[test]
 fn making() -> Result<(), Fail> {

@@ -1,3 +1,4 @@
+use super::refusal;
 use std::test::*;
 use wire::cap::Cap;
 use wire::cap::CapChoice;
@@ -12,14 +13,6 @@ use wire::pool::PoolLink;
 use wire::queue::Queue;
 use wire::queue::QueueChoice;
 use wire::queue::QueueLink;
-
-/// The number of a refusal, or 0.
-fn refusal<T: Drop>(r: Result<T, Fault>) -> u16 {
-    match r {
-        Ok(_) => 0,
-        Err(fault) => fault.number(),
-    }
-}
 
 fn about(page: u32) -> Message {
     Message {
