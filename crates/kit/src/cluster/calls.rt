@@ -1,6 +1,7 @@
 ghost use mathlib.Core.Path.{_≡_};
 ghost use mathlib.Core.List.{map};
-ghost use Prim.Native.Nat.{_<_};
+ghost use Prim.Native.Nat.{_*_, _<_};
+ghost use lib.Dec.{ltb};
 ghost use Rattle.std.specs.Iters.{counting};
 ghost use Rattle.std.specs.Results.{Cases};
 ghost use Rattle.std.specs.Vec.{made};
@@ -56,6 +57,13 @@ impl Cluster {
         })
     }
 
+    /// Is an address one of the kit's?
+    fn has_address(&self, address: u32) -> bool
+        ensures { λ r. ⌜ r ≡ ltb address (16 * now (self .entry) .pages) ⌝ }
+    {
+        address < 16 * self.pages
+    }
+
     /// Puts a word into board 0's page table.
     fn put_word(&mut self, address: u32, word: u32)
         requires { ⌜ page-of address < 16 ⌝ }
@@ -76,7 +84,7 @@ impl Cluster {
             (λ _. kit-of (now (self .exit)) ≡ placed (kit-of (now (self .entry))) address word)
             (λ _. now (self .exit) ≡ now (self .entry)) ⌝ }
     {
-        if address >= 16 * self.pages {
+        if !self.has_address(address) {
             return Err(Fault::NoSuchAddress);
         }
         self.put_word(address, word);

@@ -1,13 +1,15 @@
 use borrow.Author.Needs.{needs}
 use mathlib.Core.List.{map}
-use mathlib.Core.Path.{ap}
+use mathlib.Core.Path.{ap, sym, _∙_}
+use Prim.Native.Nat.{_*_}
+use Rattle.std.proofs.shelf.Tests.{ltb-true}
 use Rattle.board.specs.Boards.{state-of}
 use Rattle.kit.proofs.Memories.{page-inside}
 use Rattle.kit.proofs.Places.{placed-tables}
 use Rattle.kit.proofs.cluster.Cluster.place.Needs as need
 
 pub put-word-requires : need.put-word-requires
-put-word-requires c κs = page-inside (c .args .address) (c .args .self .now .pages) (c .args .self .now .bounded .1) (c .if-address-self .left)
+put-word-requires c κs = page-inside (c .args .address) (c .args .self .now .pages) (c .args .self .now .bounded .1) (ltb-true (c .args .address) (16 * c .args .self .now .pages) (sym (c .has-address .ensures) ∙ c .if-not-has-address .left))
 
 pub returns : need.returns
 returns c =
