@@ -65,10 +65,11 @@ call-of letter two three eight =
     (cond (eqb letter letter-S) (Some (Store two three eight))
     (cond (eqb letter letter-D) (cond (eqb two 0 && eqb eight 0) (Some (Deliver three)) None) None))))
 
--- a letter, two and three decimal digits, eight hexadecimal digits, a space and a newline
+-- sixteen characters, of which the last two are a space and a newline
 abbrev pub framed : List ℕ → Bool
 framed r = eqb (length r) 16 && eqb (getD r 14 0) 32 && eqb (getD r 15 0) 10
 
+-- before them a letter, two and three decimal digits, and eight hexadecimal digits
 abbrev pub numbers-of : List ℕ → Option Call
 numbers-of r =
     and-then (numeral 10 (between 1 3 r)) (λ two.

@@ -13,7 +13,7 @@ pub struct Line {
 }
 
 impl Line {
-    /// The sixteen characters.
+    /// The sixteen characters of the listing that say it.
     pub fn text(&self) -> [u8; 16]
         ensures { λ r. ⌜ r ≡ text (now (self .entry)) ⌝ }
     {

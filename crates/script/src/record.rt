@@ -12,7 +12,7 @@ use crate::call::LinkKind;
 use crate::digits::read_number;
 use wire::fault::Fault;
 
-/// The link of a number.
+/// The link that a script's number names.
 fn read_link(number: u32) -> Option<LinkKind>
     ensures { λ r. ⌜ r ≡ link-of number ⌝ }
 {
@@ -57,7 +57,7 @@ fn name_call(letter: char, two: u32, three: u32, eight: u32) -> Option<Call>
     }
 }
 
-/// The call of a record of sixteen characters.
+/// The call that the letter and the digits of a record make.
 fn read_numbers(text: &[u8]) -> Option<Call>
     requires { ⌜ length (now text) ≡ 16 ⌝ }
     ensures { λ r. ⌜ r ≡ numbers-of (now (text .entry)) ⌝ }

@@ -14,5 +14,5 @@ no-boards = record { members = replicate 16 false }
 abbrev pub with-member : BoardSet → ℕ → BoardSet
 with-member s board = record { members = set (s .members) board true }
 
-abbrev pub without : BoardSet → ℕ → BoardSet
-without s board = record { members = set (s .members) board false }
+abbrev pub without-member : BoardSet → ℕ → BoardSet
+without-member s board = record { members = set (s .members) board false }

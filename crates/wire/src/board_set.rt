@@ -1,5 +1,5 @@
 ghost use mathlib.Core.Path.{_≡_};
-ghost use Rattle.wire.specs.BoardSets.{has, with-member, without};
+ghost use Rattle.wire.specs.BoardSets.{has, with-member, without-member};
 
 /// A set of boards, numbered 0 to 15.
 #[derive(Clone, Copy)]
@@ -27,7 +27,7 @@ impl BoardSet {
     }
 
     pub fn remove(&mut self, board: u8)
-        ensures { λ _. ⌜ now (self .exit) ≡ without (now (self .entry)) board ⌝ }
+        ensures { λ _. ⌜ now (self .exit) ≡ without-member (now (self .entry)) board ⌝ }
     {
         if board < 16 {
             self.members[board as usize] = false;
