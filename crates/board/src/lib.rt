@@ -1,3 +1,5 @@
+#![tactic(auto)]
+
 pub mod board;
 pub mod entry;
 pub mod request;

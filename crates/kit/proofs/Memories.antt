@@ -7,7 +7,7 @@ use Rattle.board.specs.Entries.{start_entry, with_word}
 use Rattle.board.specs.declared.entry.PageEntry.{PageEntry}
 use Rattle.lone.specs.Tables.{start_table, entry_at, no_entry, word_at, with_word_at, page_of, place_of}
 use Rattle.kit.specs.Kits.{placed, table_of}
-use Rattle.kit.specs.Memory.{Placement, after_placing, InRange, memory, PlacedWords}
+use Rattle.kit.specs.Memory.{Placement, after_placing, InRange, PlacedWords}
 
 -- sixteen pages of sixteen words
 pub record Shaped (es : List PageEntry) : Type 0 where

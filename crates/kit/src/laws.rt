@@ -10,5 +10,5 @@ pub fn placed_words()
 
 /// The worked cases of the limits, over any link.
 pub fn worked_cases<L: Link>(_link: &L)
-    ensures { WorkedCases limit waiting }
+    ensures { WorkedCases L.limit L.waiting }
 {}

@@ -1,3 +1,5 @@
+#![tactic(auto)]
+
 pub mod cluster;
 pub mod laws;
 pub mod loading;

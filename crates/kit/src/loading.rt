@@ -18,7 +18,7 @@ pub struct Loading<L: Link> {
 impl<L: Link + Drop> Loading<L> {
     /// A kit of `boards` boards and `pages` pages over an empty link.
     pub fn new(link: L, boards: u8, pages: u32) -> Result<Loading<L>, Fault>
-        ensures refused { refusal result ≡ first_no (making_questions boards pages (limit link) (size (waiting link))) }
+        ensures refused { refusal result ≡ first_no (making_questions boards pages (L.limit link) (size (L.waiting link))) }
         ensures made { IfOk result (λ k. (kit_of k.cluster ≡ start_kit boards pages) × (k.link ≡ link)) }
     {
         let cluster = Cluster::start(boards, pages)?;

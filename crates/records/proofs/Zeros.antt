@@ -1,6 +1,6 @@
 -- A list that equals one of zeros is all zero.
 use Rattle.std.proofs.Common.{◌≡◌, ℕ, zero, suc, Bool, true, eqb, List, [], ◌∷◌, length, replicate, Decides, refl, ap, ◌∙◌}
-use Rattle.std.specs.Cmp.Lexicographic.{Matches}
+use Rattle.std.specs.Cmp.Lexicographic.{pointwise}
 use Rattle.std.proofs.lemmas.Slice.Eq.{slice_eq-Decides}
 use Rattle.std.proofs.lemmas.Bool.{and_parts, eqb-true}
 use Rattle.std.proofs.lemmas.Bool.Decides.{same_from_decides, Decides-eqb}
@@ -20,5 +20,5 @@ decides_zero : (ns : List ℕ) (n : ℕ) → length ns ≡ n → Decides (all_ze
 decides_zero ns n l = (λ t. zeros_back ns t ∙ ap (λ (k : ℕ). replicate k 0) l, λ e. ap all_zero e ∙ zero_all n)
 
 -- the answer to whether a list equals n zeros
-pub zero_test : (ns : List ℕ) (n : ℕ) (r : Bool) → length ns ≡ n → Matches (λ (a b : ℕ) (t : Bool). Decides t (a ≡ b)) ns (replicate n 0) r → r ≡ all_zero ns
+pub zero_test : (ns : List ℕ) (n : ℕ) (r : Bool) → length ns ≡ n → r ≡ pointwise eqb ns (replicate n 0) → r ≡ all_zero ns
 zero_test ns n r l m = same_from_decides r (all_zero ns) (slice_eq-Decides Decides-eqb ns (replicate n 0) r m) (decides_zero ns n l)

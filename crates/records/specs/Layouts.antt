@@ -1,5 +1,5 @@
 -- The record of a message: 80 bytes.
-use Rattle.std.specs.Prelude.{ℕ, ◌+◌, ◌*◌, Bool, List, [], ◌∷◌, ◌++◌, map, length, replicate, ◌==◌}
+use Rattle.std.specs.Prelude.{ℕ, ◌+◌, ◌*◌, Bool, List, ◌∷◌, ◌++◌, map, length, replicate, ◌==◌}
 use Rattle.std.specs.List.{between, range_with_len, flat_map}
 use Rattle.std.specs.Option.{unwrap_or}
 use Rattle.wire.specs.BoardBits.{set_bits, set_of_bits}

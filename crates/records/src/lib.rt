@@ -1,3 +1,5 @@
+#![tactic(auto)]
+
 pub mod form;
 pub mod laws;
 pub mod layout;

@@ -73,7 +73,7 @@ fn unused_are_zero(bytes: &[u8]) -> bool
     requires { length bytes.now ≡ record_length }
     ensures { result ≡ unused_zero bytes.now }
 {
-    unused_bytes(bytes) == [0; 8]
+    unused_bytes(bytes) == [0; 8].as_slice()
 }
 
 /// The message whose record the bytes are. Any other bytes are refused.

@@ -1,3 +1,5 @@
+#![tactic(auto)]
+
 pub mod one_place;
 pub mod piles;
 #[cfg(test)]

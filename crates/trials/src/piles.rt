@@ -14,9 +14,9 @@ pub fn exchange<L: Link>(
     pick: u16,
 ) -> Result<Option<Message>, Fault>
     ensures exchanged { MatchResult result
-        (λ taken. IfSome taken (λ m. message & waiting link.old ≡ m & waiting link.new))
+        (λ taken. IfSome taken (λ m. message & L.waiting link.old ≡ m & L.waiting link.new))
         (λ _. link.new ≡ link.old) }
-    ensures limit { limit link.new ≡ limit link.old }
+    ensures limit { L.limit link.new ≡ L.limit link.old }
 {
     link.post(message)?;
     Ok(link.take(pick))

@@ -17,7 +17,7 @@ impl BoardSet {
     pub fn contains(&self, board: u8) -> bool
         ensures { result ≡ has self.now board }
     {
-        board < 16 && self.members[board as usize]
+        (board as usize) < 16 && self.members[board as usize]
     }
 
     pub fn is_empty(&self) -> bool

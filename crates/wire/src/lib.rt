@@ -1,3 +1,5 @@
+#![tactic(auto)]
+
 pub mod board_set;
 pub mod cap;
 pub mod choice;

@@ -39,5 +39,5 @@ pub trait Link: Choice {
 
 /// Never do more messages wait than the limit, whatever is called on a link that began empty.
 pub fn never_over_the_limit<L: Link>(_link: &L)
-    ensures { NeverOver limit waiting }
+    ensures { NeverOver L.limit L.waiting }
 {}

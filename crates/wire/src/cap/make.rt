@@ -10,7 +10,7 @@ use crate::link::{LARGEST_LIMIT, Link};
 impl<L: Link + Drop> Cap<L> {
     /// A cap of `most` over an empty link.
     pub fn new(below: L, most: u16) -> Result<Cap<L>, Fault>
-        ensures refused { refusal result ≡ first_no (layer_questions (size (waiting below)) most) }
+        ensures refused { refusal result ≡ first_no (layer_questions (size (L.waiting below)) most) }
         ensures made { IfOk result (λ c. (c.below ≡ below) × (c.most ≡ most)) }
     {
         if below.count() != 0 {

@@ -4,10 +4,10 @@ use Rattle.records.proofs.write.put.Goals as goal
 
 pub returns : goal.returns
 returns c =
-    let same = c.copy-from-slice.ensures.after in
+    let same = c.copy_from_slice.ensures.after in
     record {
       front =
-          take-put_mid c.args.place _ c.args.out.now c.copy-from-slice.new.self _ (omega (arith, ap length same)) (omega arith)
+          take-put_mid c.args.place _ c.args.out.now c.copy_from_slice.new.self _ (omega (arith, ap length same)) (omega arith)
           ∙ ap (λ (xs : List ℕ). take c.args.place c.args.out.now ++ xs) same;
-      behind = drop-put_mid c.args.place _ c.args.out.now c.copy-from-slice.new.self _ (omega arith) (omega arith) (omega (arith, ap length same));
+      behind = drop-put_mid c.args.place _ c.args.out.now c.copy_from_slice.new.self _ (omega arith) (omega arith) (omega (arith, ap length same));
     }

@@ -8,13 +8,13 @@ use Rattle.records.proofs.write.write_record.Goals as goal
 pub returns : goal.returns
 returns c =
     let m = c.args.message.now in
-    let formed = c.in-ok-ask-form.ensures in
-    let typed : Typed m = record { boards = c.put-head.ensures.boards; words = search rules; wide = c.put-words.ensures.wide } in
-    let w : Written m c.put-words.new.out = record {
+    let formed = c.in_ok-ask_form.ensures in
+    let typed : Typed m = record { boards = c.put_head.ensures.boards; words = search rules; wide = c.put_words.ensures.wide } in
+    let w : Written m c.put_words.new.out = record {
       accepted = sym formed;
-      bytes = c.put-words.ensures.bytes ∙ ap (λ (xs : List ℕ). xs ++ word_bytes m.words) c.put-head.ensures.head;
+      bytes = c.put_words.ensures.bytes ∙ ap (λ (xs : List ℕ). xs ++ word_bytes m.words) c.put_head.ensures.head;
     } in
-    record { refused = formed ∙ room_asked m (length c.args.out.now) (omega arith); written = (w, read_back m c.put-words.new.out typed w) }
+    record { refused = formed ∙ room_asked m (length c.args.out.now) (omega arith); written = (w, read_back m c.put_words.new.out typed w) }
 
-pub put-head-requires : goal.put-head-requires
-put-head-requires c = record { page = page_below c.args.message.now c.in-ok-ask-form.ensures; room = search rules }
+pub put_head-requires : goal.put_head-requires
+put_head-requires c = record { page = page_below c.args.message.now c.in_ok-ask_form.ensures; room = search rules }

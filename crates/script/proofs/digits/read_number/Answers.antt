@@ -6,21 +6,21 @@ use Rattle.script.proofs.digits.read_number.Goals as goal
 pub loop-c-init : goal.loop-c-init
 loop-c-init c = (refl, omega (arith, pow-zero c.args.base))
 
-pub returns-in-err-d : goal.returns-in-err-d
-returns-in-err-d c =
-    rw c.from-residual.ensures (record {
-      value = numeral_none c.args.base c.args.text.now c.loop-c.c-index c.loop-c.n _ (omega arith) refl _ c.in-err-d.ensures.value c.loop-c.invariant.0;
+pub returns-in_err-d : goal.returns-in_err-d
+returns-in_err-d c =
+    rw c.from_residual.ensures (record {
+      value = numeral_none c.args.base c.args.text.now c.loop-c.c-index c.loop-c.n _ (omega arith) refl _ c.in_err-d.ensures.value c.loop-c.invariant.0;
       bound = tt;
     })
 
 pub append-n-requires : goal.append-n-requires
-append-n-requires c = fits_more c.args.base c.loop-c.n c.in-ok-d.d c.loop-c.c-index (length c.args.text.now) c.requires (omega arith) c.loop-c.invariant.1 c.in-ok-d.ensures.bound
+append-n-requires c = fits_more c.args.base c.loop-c.n c.in_ok-d.d c.loop-c.c-index (length c.args.text.now) c.requires (omega arith) c.loop-c.invariant.1 c.in_ok-d.ensures.bound
 
 pub loop-c-preserved : goal.loop-c-preserved
 loop-c-preserved c =
     rw c.append-n.ensures (
-      numeral_more c.args.base c.args.text.now c.loop-c.c-index c.loop-c.n _ (omega arith) refl _ c.in-ok-d.d c.in-ok-d.ensures.value c.loop-c.invariant.0,
-      bound_more c.args.base c.loop-c.n c.in-ok-d.d c.loop-c.c-index c.loop-c.invariant.1 c.in-ok-d.ensures.bound,
+      numeral_more c.args.base c.args.text.now c.loop-c.c-index c.loop-c.n _ (omega arith) refl _ c.in_ok-d.d c.in_ok-d.ensures.value c.loop-c.invariant.0,
+      bound_more c.args.base c.loop-c.n c.in_ok-d.d c.loop-c.c-index c.loop-c.invariant.1 c.in_ok-d.ensures.bound,
     )
 
 pub returns : goal.returns

@@ -6,11 +6,11 @@ use Rattle.script.specs.Records.{form}
 use Rattle.script.proofs.Turns.{refused_form}
 use Rattle.script.proofs.turn.turn_loading.Goals as goal
 
-pub returns-in-err-address : goal.returns-in-err-address
-returns-in-err-address g c =
-    let p = err_from_is_err_and c.from-residual.result c.from-residual.ensures.1 in
+pub returns-in_err-address : goal.returns-in_err-address
+returns-in_err-address g c =
+    let p = err_from_is_err_and c.from_residual.result c.from_residual.ensures.1 in
     rw (p.1, p.2) (record {
-      refused = λ link. refused_form (loading link (kit_of c.args.kit.now.cluster)) (form c.args.text.now) _ c.in-err-address.ensures.refused;
+      refused = λ link. refused_form (loading link (kit_of c.args.kit.now.cluster)) (form c.args.text.now) _ c.in_err-address.ensures.refused;
       done = λ _. tt;
       kept = refl {a = c.args.kit.now};
     })

@@ -6,8 +6,8 @@ use Rattle.trials.proofs.one_place.queue_of_one.Goals as goal
 
 pub returns : goal.returns
 returns c =
-    let start = c.in-ok-link.link in
-    let made = c.in-ok-link.ensures.made in
+    let start = c.in_ok-link.link in
+    let made = c.in_ok-link.ensures.made in
     let one = c.post-first.new.self in
     let two = c.post-second.new.self in
     let three = c.take-taken.new.self in

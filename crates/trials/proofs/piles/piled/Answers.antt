@@ -5,9 +5,9 @@ use Rattle.trials.proofs.piles.piled.Goals as goal
 
 pub returns : goal.returns
 returns c =
-    let outer = c.in-ok-link.ensures.made in
-    let inner = c.in-ok-new-2.ensures.made in
-    let pool = c.in-ok-new.ensures.made in
+    let outer = c.in_ok-link.ensures.made in
+    let inner = c.in_ok-new-2.ensures.made in
+    let pool = c.in_ok-new.ensures.made in
     let three : c.limit.result ≡ 3 =
     omega (arith, c.limit.ensures, c.exchange.ensures.limit, outer.1, ap (λ (l : Cap Pool). l.most) outer.0, ap (λ (l : Cap Pool). l.below.row.limit) outer.0, inner.1, ap (λ (p : Pool). p.row.limit) inner.0, pool.2) in
     ap Ok three

@@ -4,7 +4,7 @@ use Rattle.wire.proofs.Gaps.{moved_more, moved_all}
 use Rattle.wire.proofs.gap.take_out.Goals as goal
 
 pub loop-i-preserved : goal.loop-i-preserved
-loop-i-preserved g c = moved_more c.args.items.now c.loop-i.items c.move-up.new.items c.loop-i.i c.args.place (omega arith) (omega arith) c.move-up.ensures c.loop-i.invariant
+loop-i-preserved g c = moved_more c.args.items.now c.loop-i.items c.move_up.new.items c.loop-i.i c.args.place (omega arith) (omega arith) c.move_up.ensures c.loop-i.invariant
 
 pub returns : goal.returns
 returns g c =

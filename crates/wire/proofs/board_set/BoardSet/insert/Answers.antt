@@ -1,6 +1,5 @@
 use Rattle.std.proofs.Common.{◌≡◌, Bool, true, List, length, sym, ap, arith, rules}
 use Rattle.std.proofs.lemmas.List.{set_past}
-use Rattle.wire.specs.declared.board_set.BoardSet.{BoardSet}
 use Rattle.wire.proofs.board_set.BoardSet.insert.Goals as goal
 
 pub returns-else-board-lt16 : goal.returns-else-board-lt16

@@ -11,13 +11,13 @@ pub returns : goal.returns
 returns c =
     let s = c.args.self.now in
     let p = c.args.place in
-    let m = c.take-out-message.result in
+    let m = c.take_out-message.result in
     let n = length-take-le s.len s.messages (omega arith) in
     let i : p < s.len = omega arith in
-    let item : m ≡ get_or (row s) p m = c.take-out-message.ensures.item ∙ sym (get_or-take s.len s.messages p m i) in
-    let rest : take (s.len - 1) c.take-out-message.new.items ≡ remove (row s) p = ap (take (s.len - 1)) c.take-out-message.ensures.rest ∙ front_closed s.messages s.len p i (omega arith) in
+    let item : m ≡ get_or (row s) p m = c.take_out-message.ensures.item ∙ sym (get_or-take s.len s.messages p m i) in
+    let rest : take (s.len - 1) c.take_out-message.new.items ≡ remove (row s) p = ap (take (s.len - 1)) c.take_out-message.ensures.rest ∙ front_closed s.messages s.len p i (omega arith) in
     record {
       limit = refl;
       chosen = put_back (row s) p m c.requires item ∙ ap (λ ys. insert ys p m) (sym rest);
-      left = adds_removed (row s) (take (s.len - 1) c.take-out-message.new.items) p m c.requires item rest;
+      left = adds_removed (row s) (take (s.len - 1) c.take_out-message.new.items) p m c.requires item rest;
     }
