@@ -1,6 +1,6 @@
 -- Writing and reading undo each other.
 use Rattle.std.proofs.Common.{◌≡◌, ℕ, zero, suc, ◌+◌, ◌^◌, ◌<◌, ◌≤◌, Bool, true, List, [], ◌∷◌, ◌++◌, map, length, take, drop, replicate, unwrap_or, sym, refl, ap, ◌∙◌, append_assoc, arith}
-use Rattle.std.specs.List.{between, range_with_len, AllByRecursion as All}
+use Rattle.std.specs.List.{between, range_with_len, AllByRecursion}
 use Rattle.std.proofs.lemmas.List.{length-append, length-drop, drop_more, drop-drop, take_all, take-append-drop}
 use Rattle.std.proofs.lemmas.List.Edits.{length-between}
 use Rattle.std.proofs.lemmas.Bool.{eq-eqb}
@@ -118,7 +118,7 @@ written_back m bs small r =
       bytes = bytes_again bs yes.length small (message_in bs).kind (sym number) yes.unused ∙ ap record_of (sym r.message);
     }
 
-wide : (bs : List ℕ) (a n : ℕ) → Bytes bs → word_place (a + n) ≤ length bs → All (λ w. w < 2 ^ 32) (map (λ i. number_at bs (word_place i) 4) (range_with_len a n))
+wide : (bs : List ℕ) (a n : ℕ) → Bytes bs → word_place (a + n) ≤ length bs → AllByRecursion (λ w. w < 2 ^ 32) (map (λ i. number_at bs (word_place i) 4) (range_with_len a n))
 wide bs a zero small h = tt
 wide bs a (suc n) small h = (number_below bs (word_place a) 4 small (omega arith), wide bs (a + 1) n small (omega arith))
 

@@ -1,6 +1,6 @@
 -- The words of a page stand four bytes apart, and are read where they were written.
 use Rattle.std.proofs.Common.{◌≡◌, ℕ, zero, suc, ◌+◌, ◌*◌, ◌^◌, ◌<◌, ◌≤◌, List, [], ◌∷◌, ◌++◌, map, length, get_or, take, drop, sym, refl, ap, ◌∙◌, append_assoc, arith}
-use Rattle.std.specs.List.{range_with_len, flat_map, AllByRecursion as All}
+use Rattle.std.specs.List.{range_with_len, flat_map, AllByRecursion}
 use Rattle.std.proofs.lemmas.List.FromFn.{fill_by_all}
 use Rattle.std.proofs.ByRecursion.{All-get_or}
 use Rattle.std.proofs.lemmas.List.{append-nil, length-append, take_all, take-append-drop, take_more, drop-drop, drop-take, take-take}
@@ -24,7 +24,7 @@ word_back front (w ∷ ws) (suc k) place h e small =
     ap (λ (xs : List ℕ). number_at xs place 4) (sym (append_assoc front (low_first 4 w) (word_bytes ws)))
     ∙ word_back (front ++ low_first 4 w) ws k place (omega arith) (omega (arith, length-append front (low_first 4 w))) small
 
-pub words_back : (front ws : List ℕ) → length front ≡ 16 → length ws ≡ 16 → All (λ w. w < 2 ^ 32) ws → words_in (front ++ word_bytes ws) ≡ ws
+pub words_back : (front ws : List ℕ) → length front ≡ 16 → length ws ≡ 16 → AllByRecursion (λ w. w < 2 ^ 32) ws → words_in (front ++ word_bytes ws) ≡ ws
 unfolding words_in
 words_back front ws f l small =
     sym (fill_by_all (λ i. number_at (front ++ word_bytes ws) (word_place i) 4) ws 16 0 l (λ k h.

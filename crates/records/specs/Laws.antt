@@ -1,6 +1,6 @@
 -- Writing and reading undo each other.
 use Rattle.std.specs.Prelude.{◌≡◌, ℕ, ◌^◌, ◌<◌, List, length, None}
-use Rattle.std.specs.List.{AllByRecursion as All}
+use Rattle.std.specs.List.{AllByRecursion}
 use Rattle.wire.specs.Questions.{first_no}
 use Rattle.wire.specs.declared.message.Message.{Message}
 use Rattle.records.specs.Forms.{message_questions}
@@ -20,10 +20,10 @@ pub record Read (bs : List ℕ) (m : Message) : Type 0 where
 pub record Typed (m : Message) : Type 0 where
   pub boards : length m.copies.members ≡ 16
   pub words : length m.words ≡ 16
-  pub wide : All (λ w. w < 2 ^ 32) m.words
+  pub wide : AllByRecursion (λ w. w < 2 ^ 32) m.words
 
 abbrev pub Bytes : List ℕ → Type 0
-Bytes bs = All (λ b. b < 256) bs
+Bytes bs = AllByRecursion (λ b. b < 256) bs
 
 -- what was written is read back
 abbrev pub ReadBack : Type 0

@@ -1,5 +1,5 @@
 ghost use Rattle.std.specs.Prelude.{◌≡◌, ◌+◌, ◌^◌, ◌<◌, ◌≤◌, [], ◌∷◌, ◌++◌, length, take, drop, MatchResult};
-ghost use Rattle.std.specs.List.{flat_map, AllByRecursion as All};
+ghost use Rattle.std.specs.List.{flat_map, AllByRecursion};
 ghost use Rattle.wire.specs.Questions.{refusal, first_no};
 ghost use Rattle.records.specs.Forms.{page_limit};
 ghost use Rattle.records.specs.Laws.{Read, Written};
@@ -59,7 +59,7 @@ fn put_head(message: &Message, out: &mut [u8])
 fn put_words(words: &[u32; 16], out: &mut [u8])
     requires { length out.old ≡ record_length }
     ensures bytes { out.new ≡ take 16 out.old ++ flat_map (low_first 4) words.now }
-    ensures wide { All (λ w. w < 2 ^ 32) words.now }
+    ensures wide { AllByRecursion (λ w. w < 2 ^ 32) words.now }
 {
     for i in 0..16usize {
         put(out, word_place(i), &word_bytes(words[i]));

@@ -25,6 +25,12 @@ records_more script i h =
     let k : record_count script - i ≡ suc (record_count script - (i + 1)) = omega arith in
     ap (λ n. map (record_at script) (range_with_len i n)) k
 
+-- where no record is left, the listing is complete
+pub none_left : (script : List ℕ) (i : ℕ) (s : Bench) (out : List ℕ) → record_count script ≤ i → out ++ answers s (records_from script i) ≡ out
+none_left script i s out h =
+    let none : record_count script - i ≡ 0 = omega arith in
+    ap (λ n. out ++ answers s (map (record_at script) (range_with_len i n))) none ∙ append-nil out
+
 -- The answers from record i on are to complete the listing. What stands in the listing after that record's own line, by its outcome:
 module _ (script : List ℕ) (i : ℕ) (h : i < record_count script) (r : List ℕ) (at : r ≡ record_at script i) (s : Bench) (out all : List ℕ) (p : out ++ answers s (records_from script i) ≡ all) where
   at_outcome : (o : Outcome) → outcome s r ≡ o → out ++ (text (line o) ++ cond (ends o r) [] (answers (after s o) (records_from script (i + 1)))) ≡ all

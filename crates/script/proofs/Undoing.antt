@@ -1,5 +1,5 @@
 -- Reading and writing numbers undo each other.
-use Rattle.std.proofs.Common.{◌≡◌, ℕ, zero, suc, ◌+◌, ◌-◌, ◌*◌, ◌/◌, ◌%◌, ◌^◌, ◌<◌, ◌≤◌, List, [], ◌∷◌, ◌++◌, length, get_or, take, Some, None, Option, sym, refl, ap, ◌∙◌, subst, mod-lt, pow-suc, div-add-mod', add-one, arith}
+use Rattle.std.proofs.Common.{◌≡◌, ℕ, zero, suc, ◌+◌, ◌*◌, ◌/◌, ◌%◌, ◌^◌, ◌<◌, ◌≤◌, List, [], ◌∷◌, ◌++◌, length, get_or, take, Some, None, Option, sym, refl, ap, ◌∙◌, subst, mod-lt, pow-suc, div-add-mod', add-one, arith}
 use lib.Arith.{digits_div, digits_mod}
 use native.Mathlib.Nat.{pow-zero}
 use Rattle.std.proofs.lemmas.Nat.{div_below}

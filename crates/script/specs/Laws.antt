@@ -1,5 +1,5 @@
 -- Laws of records, answers and listings.
-use Rattle.std.specs.Prelude.{◌≡◌, ℕ, ◌*◌, ◌^◌, ◌<◌, ◌≤◌, List, [], ◌∷◌, ◌++◌, length, Some, Option}
+use Rattle.std.specs.Prelude.{◌≡◌, ℕ, ◌*◌, ◌^◌, ◌<◌, ◌≤◌, List, [], ◌∷◌, ◌++◌, length, Some}
 use Rattle.std.specs.List.{between}
 use Rattle.script.specs.Digits.{digits, numeral}
 use Rattle.script.specs.Lines.{line_of, text, letter_a}

@@ -11,7 +11,9 @@ fn expect(rt: &impl Abort, heap: Global, script: &[u8], listing: &[u8]) -> Resul
 }
 
 fn expect_text(rt: &impl Abort, heap: Global, script: &str, listing: &str) -> Result<(), Fail> {
-    expect(rt, heap, script.as_bytes(), listing.as_bytes()).note(script)
+    let played = play(heap, script.as_bytes())?;
+    assert!(rt; played.as_slice() == listing.as_bytes(), "{script}");
+    Ok(())
 }
 
 #[test]

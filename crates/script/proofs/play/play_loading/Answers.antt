@@ -1,9 +1,9 @@
-use Rattle.std.proofs.Common.{◌+◌, ◌++◌, vec_items, vec_len, vec_capacity, ap, ◌∙◌, arith}
+use Rattle.std.proofs.Common.{◌+◌, ◌++◌, sym, vec_items, vec_len, vec_capacity, ap, ◌∙◌, arith}
 use Rattle.wire.specs.Faults.{number}
 use Rattle.kit.specs.Kits.{Kit, kit_of}
 use Rattle.script.specs.Plays.{loading, answers}
 use Rattle.script.specs.Records.{records_from}
-use Rattle.script.proofs.Scripts.{goes_on, goes_on_refused, ends_here}
+use Rattle.script.proofs.Scripts.{none_left, goes_on, goes_on_refused, ends_here}
 use Rattle.script.proofs.play.play_loading.Goals as goal
 use Rattle.script.proofs.play.play_loading.Goals.{in-Ok, in-Err+else-names_kit}
 
@@ -27,3 +27,7 @@ loop-i-preserved g c =
         omega (arith, c.loop-i.invariant.1, ap vec_len w.listing-is, ap vec_capacity w.listing-is, w.add_line-in-Err.ensures.len, w.add_line-in-Err.ensures.capacity),
       )
     ]
+
+pub returns : goal.returns
+returns g c link =
+    sym (none_left c.args.script.now c.loop-i.i (loading link (kit_of c.loop-i.kit.cluster)) (vec_items c.loop-i.listing) (omega arith)) ∙ c.loop-i.invariant.0 link
