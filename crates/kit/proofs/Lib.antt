@@ -1,4 +1,2 @@
-pub mod Starts
-pub mod Places
 pub mod Memories
 pub mod WorkedCases

@@ -1,9 +1,8 @@
 -- The worked cases hold.
-use Rattle.std.proofs.Common.{◌≡◌, ℕ, true, false, cond, ltb, Some, None, Ok, Err, Option, Result, refl, ap, ◌∙◌, arith}
-use Rattle.std.proofs.lemmas.Bool.{lt-ltb, le-ltb}
+use Rattle.std.proofs.Common.{◌≡◌, ℕ, Some, None, Ok, Err, Option, Result, refl, ap, ◌∙◌, arith}
+use Rattle.std.proofs.lemmas.Bool.Decides.{nat_tests}
 use Rattle.wire.specs.Bags.{Bag, size}
 use Rattle.wire.specs.Questions.{refusal}
-use Rattle.wire.specs.Faults.{number}
 use Rattle.wire.specs.Links.{Posted, Taken}
 use Rattle.wire.specs.declared.fault.Fault.{Fault}
 use Rattle.wire.specs.declared.message.Message.{Message}
@@ -16,22 +15,12 @@ module _ {L : Type 0} (limit : L → ℕ) (waiting : L → Bag Message) where
   -- a post with a place free passes, and one more waits
   passes : (s t : L) (m : Message) (r : Result (Unit {0}) Fault) → limit s ≡ 1 → size (waiting s) ≡ 0 → Posted limit waiting s m r t → (refusal r ≡ None) × (size (waiting t) ≡ 1) × (limit t ≡ 1)
   passes s t m (Ok x) l e p = (refl, omega (arith, p.1.0.1 (λ _. 1)), p.1.1 ∙ l)
-  passes s t m (Err f) l e p =
-      let free : ltb (size (waiting s)) (limit s) ≡ true = lt-ltb (size (waiting s)) (limit s) (omega arith) in
-      let none : Some (number f) ≡ None = p.0 ∙ ap (λ b. cond b None (Some 9)) free in
-      let never : ◌≡◌ {A = ℕ} 0 1 = cc in
-      absurd (omega arith)
+  passes s t m (Err f) l e p = grind (arith, nat_tests, l, e, p.0)
 
   -- one with none free is refused, and nothing changes
   refuses : (s t : L) (m : Message) (r : Result (Unit {0}) Fault) → limit s ≡ 1 → size (waiting s) ≡ 1 → Posted limit waiting s m r t → (refusal r ≡ Some 9) × (t ≡ s)
-  refuses s t m (Ok x) l e p =
-      let full : ltb (size (waiting s)) (limit s) ≡ false = le-ltb (size (waiting s)) (limit s) (omega arith) in
-      let none : ◌≡◌ {A = Option ℕ} None (Some 9) = p.0 ∙ ap (λ b. cond b None (Some 9)) full in
-      let never : ◌≡◌ {A = ℕ} 0 1 = cc in
-      absurd (omega arith)
-  refuses s t m (Err f) l e p =
-      let full : ltb (size (waiting s)) (limit s) ≡ false = le-ltb (size (waiting s)) (limit s) (omega arith) in
-      (p.0 ∙ ap (λ b. cond b None (Some 9)) full, p.1)
+  refuses s t m (Ok x) l e p = grind (arith, nat_tests, l, e, p.0)
+  refuses s t m (Err f) l e p = (grind (arith, nat_tests, l, e, p.0), p.1)
 
   frees : (s t : L) (r : Option Message) → limit s ≡ 1 → size (waiting s) ≡ 1 → Taken limit waiting s r t → (size (waiting t) ≡ 0) × (limit t ≡ 1)
   frees s t None l e p = absurd (omega (arith, p.0.1 (λ _. 1)))

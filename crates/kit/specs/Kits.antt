@@ -4,7 +4,7 @@ use Rattle.std.specs.List.{range_with_len}
 use Rattle.board.specs.Boards.{BoardState, state_of, start_state}
 use Rattle.board.specs.declared.entry.PageEntry.{PageEntry}
 use Rattle.lone.specs.Tables.{start_table, with_word_at}
-use Rattle.lone.specs.declared.table.PageTable.{PageTable}
+use Rattle.kit.specs.declared.node.Node.{Node}
 use Rattle.kit.specs.declared.cluster.Cluster.{Cluster}
 
 -- N and P, and the tables, which have room for sixteen boards; what is past N or P stays as at the start
@@ -14,11 +14,14 @@ pub record Kit : Type 0 where
   pub states : List BoardState
   pub tables : List (List PageEntry)
 
-abbrev pub entries : PageTable → List PageEntry
-entries t = t.entries
+abbrev pub node_state : Node → BoardState
+node_state n = state_of n.state
+
+abbrev pub node_entries : Node → List PageEntry
+node_entries n = n.table.entries
 
 abbrev pub kit_of : Cluster → Kit
-kit_of k = record { boards = k.boards; pages = k.pages; states = map state_of k.states; tables = map entries k.tables }
+kit_of k = record { boards = k.size.boards; pages = k.size.pages; states = map node_state k.nodes; tables = map node_entries k.nodes }
 
 -- a kit of n boards and p pages as it starts
 abbrev pub start_kit : ℕ → ℕ → Kit

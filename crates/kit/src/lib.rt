@@ -3,3 +3,5 @@
 pub mod cluster;
 pub mod laws;
 pub mod loading;
+mod node;
+mod size;

@@ -5,6 +5,7 @@ ghost use Rattle.kit.specs.Kits.{kit_of, start_kit, placed};
 ghost use Rattle.kit.specs.KitQuestions.{making_questions, place_questions};
 
 use crate::cluster::Cluster;
+use crate::size::Size;
 use wire::fault::Fault;
 use wire::link::Link;
 
@@ -21,19 +22,22 @@ impl<L: Link + Drop> Loading<L> {
         ensures refused { refusal result ≡ first_no (making_questions boards pages (L.limit link) (size (L.waiting link))) }
         ensures made { IfOk result (λ k. (kit_of k.cluster ≡ start_kit boards pages) × (k.link ≡ link)) }
     {
-        let cluster = Cluster::start(boards, pages)?;
-        if (link.limit() as u32) < boards as u32 * boards as u32 + 16 {
+        let size = Size::new(boards, pages)?;
+        if link.limit() < size.least_limit() {
             return Err(Fault::LimitTooLow);
         }
         if link.count() != 0 {
             return Err(Fault::LinkNotEmpty);
         }
-        Ok(Loading { cluster, link })
+        Ok(Loading {
+            cluster: Cluster::start(size),
+            link,
+        })
     }
 
     /// Writes a word at board 0, which owns every page until the kit starts.
     pub fn place(&mut self, address: u32, word: u32) -> Result<(), Fault>
-        ensures refused { refusal result ≡ first_no (place_questions self.old.cluster.pages address) }
+        ensures refused { refusal result ≡ first_no (place_questions (kit_of self.old.cluster).pages address) }
         ensures placed { MatchResult result
             (λ _. (kit_of self.new.cluster ≡ placed (kit_of self.old.cluster) address word) × (self.new.link ≡ self.old.link))
             (λ _. self.new ≡ self.old) }

@@ -3,7 +3,6 @@ use Rattle.std.specs.Prelude.{List, [], ℕ, ◌/◌, ◌%◌, get_or, set, repl
 use Rattle.board.specs.Entries.{start_entry, with_word}
 use Rattle.board.specs.declared.entry.PageEntry.{PageEntry}
 use Rattle.board.specs.declared.entry.Access.TheVariants as access
-use Rattle.lone.specs.declared.table.PageTable.{PageTable}
 
 -- an address is 16 times the page number plus the place in the page
 abbrev pub page_of : ℕ → ℕ
@@ -28,7 +27,3 @@ word_at es address = get_or (entry_at es (page_of address)).words (place_of addr
 -- the table with a word put at an address
 abbrev pub with_word_at : List PageEntry → ℕ → ℕ → List PageEntry
 with_word_at es address word = set es (page_of address) (with_word (entry_at es (page_of address)) (place_of address) word)
-
--- tables of boards, with a word put at an address of one board's
-abbrev pub with_table_word : List PageTable → ℕ → ℕ → ℕ → List PageTable
-with_table_word ts board address word = set ts board (record { entries = with_word_at (get_or ts board (record { entries = [] })).entries address word })

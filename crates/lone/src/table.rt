@@ -14,9 +14,8 @@ impl PageTable {
     pub fn start(number: u8) -> PageTable
         ensures { result.entries ≡ start_table number }
     {
-        let entry = PageEntry::start(number);
         PageTable {
-            entries: [entry; 16],
+            entries: [PageEntry::start(number); 16],
         }
     }
 }

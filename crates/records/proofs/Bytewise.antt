@@ -1,9 +1,12 @@
 -- A number's bytes give the number again, and bytes are those of the number that they are, at every width.
-use Rattle.std.proofs.Common.{◌≡◌, ℕ, zero, suc, ◌+◌, ◌*◌, ◌/◌, ◌%◌, ◌^◌, ◌<◌, ◌≤◌, List, [], ◌∷◌, ◌++◌, length, take, drop, sym, refl, ap, ◌∙◌, subst, append_assoc, pow-suc, arith}
+use Rattle.std.proofs.Common.{◌≡◌, ℕ, zero, suc, ◌+◌, ◌*◌, ◌/◌, ◌%◌, ◌^◌, ◌<◌, ◌≤◌, List, [], ◌∷◌, ◌++◌, map, length, take, drop, w32, sym, refl, ap, ◌∙◌, subst, append_assoc, pow-suc, arith}
 use native.Mathlib.Nat.{pow-zero}
 use Rattle.std.proofs.lemmas.Nat.{div_below}
 use Rattle.std.proofs.ByRecursion.{All-get_or}
-use Rattle.std.proofs.lemmas.List.{get_or_at, drop_more, length-append}
+use Rattle.std.proofs.lemmas.List.{get_or_at, get_or-take, get_or-drop, drop_more, length-append, length-take-le, length-drop}
+use Rattle.std.proofs.lemmas.List.FromFn.{fill_by_all}
+use Rattle.std.specs.Int.{from_le_bytes}
+use Rattle.std.specs.List.{range_with_len}
 use Rattle.records.specs.Laws.{Bytes}
 use Rattle.records.specs.Numbers.{byte, low_first, number_at}
 
@@ -44,3 +47,17 @@ number_below bs place (suc width) small h =
     let narrow : byte bs place < 256 = All-get_or (λ b. b < 256) bs place 0 (omega arith) small in
     let rest = number_below bs (place + 1) width small (omega arith) in
     omega (arith, pow-suc 256 width)
+
+-- bytes that stand together, one by one
+pub one_by_one : (bs : List ℕ) (place n : ℕ) → place + n ≤ length bs → take n (drop place bs) ≡ map (λ i. byte bs (place + i)) (range_with_len 0 n)
+one_by_one bs place n h =
+    fill_by_all (λ i. byte bs (place + i)) (take n (drop place bs)) n 0 (length-take-le n (drop place bs) (omega (arith, length-drop place bs))) (λ k lt. get_or-take n (drop place bs) k 0 lt ∙ get_or-drop place bs k 0)
+
+-- the library's number of four bytes
+pub word : (bs : List ℕ) (place : ℕ) → place + 4 ≤ length bs → from_le_bytes w32 (take 4 (drop place bs)) ≡ number_at bs place 4
+word bs place h =
+    let first : byte bs (place + 0) ≡ byte bs place = ap (byte bs) (omega arith) in
+    let third : byte bs (place + 1 + 1) ≡ byte bs (place + 2) = ap (byte bs) (omega arith) in
+    let fourth : byte bs (place + 1 + 1 + 1) ≡ byte bs (place + 3) = ap (byte bs) (omega arith) in
+    let e : from_le_bytes w32 (take 4 (drop place bs)) ≡ byte bs (place + 0) + byte bs (place + 1) * 256 + byte bs (place + 2) * 65536 + byte bs (place + 3) * 16777216 = ap (from_le_bytes w32) (one_by_one bs place 4 h) in
+    omega (arith, e, first, third, fourth)

@@ -5,6 +5,5 @@ pub mod WordBytes
 pub mod Asking
 pub mod Undoing
 pub mod Reading
-pub mod Writing
 pub mod Damages
 pub mod WorkedRecords

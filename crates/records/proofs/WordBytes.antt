@@ -3,7 +3,8 @@ use Rattle.std.proofs.Common.{◌≡◌, ℕ, zero, suc, ◌+◌, ◌*◌, ◌^�
 use Rattle.std.specs.List.{range_with_len, flat_map, AllByRecursion}
 use Rattle.std.proofs.lemmas.List.FromFn.{fill_by_all}
 use Rattle.std.proofs.ByRecursion.{All-get_or}
-use Rattle.std.proofs.lemmas.List.{append-nil, length-append, take_all, take-append-drop, take_more, drop-drop, drop-take, take-take}
+use Rattle.std.proofs.Math.Seq.{take-add}
+use Rattle.std.proofs.lemmas.List.{length-append, take_all, take_more, drop-drop, flat_map_more}
 use Rattle.records.specs.Laws.{Bytes}
 use Rattle.records.specs.Layouts.{words_in, word_place}
 use Rattle.records.specs.Numbers.{low_first, number_at}
@@ -30,12 +31,6 @@ words_back front ws f l small =
     sym (fill_by_all (λ i. number_at (front ++ word_bytes ws) (word_place i) 4) ws 16 0 l (λ k h.
     sym (word_back front ws k (word_place k) (omega arith) (omega arith) (All-get_or (λ w. w < 2 ^ 32) ws k 0 (omega arith) small))))
 
-take_more_of : (m n : ℕ) (xs : List ℕ) → take (m + n) xs ≡ take m xs ++ take n (drop m xs)
-take_more_of m n xs =
-    sym (take-append-drop m (take (m + n) xs))
-    ∙ ap (λ (ys : List ℕ). ys ++ drop m (take (m + n) xs)) (take-take m (m + n) xs (omega arith))
-    ∙ ap (λ (ys : List ℕ). take m xs ++ ys) (drop-take m n xs)
-
 -- the words from the one at a on, in bytes, are the bytes from there on
 pub bytes_of_words : (bs : List ℕ) (a n : ℕ) → Bytes bs → word_place (a + n) ≤ length bs → word_bytes (map (λ i. number_at bs (word_place i) 4) (range_with_len a n)) ≡ take (4 * n) (drop (word_place a) bs)
 bytes_of_words bs a zero small h = refl
@@ -47,12 +42,8 @@ bytes_of_words bs a (suc n) small h =
     ∙ ap (λ (ys : List ℕ). take 4 xs ++ ys) (bytes_of_words bs (a + 1) n small (omega arith))
     ∙ ap (λ (k : ℕ). take 4 xs ++ take (4 * n) (drop k bs)) (sym next)
     ∙ ap (λ (ys : List ℕ). take 4 xs ++ take (4 * n) ys) (sym (drop-drop 4 (word_place a) bs))
-    ∙ sym (take_more_of 4 (4 * n) xs)
+    ∙ sym (take-add 4 (4 * n) xs)
     ∙ ap (λ (k : ℕ). take k xs) four
-
-word_bytes_push : (ws : List ℕ) (w : ℕ) → word_bytes (ws ++ w ∷ []) ≡ word_bytes ws ++ low_first 4 w
-word_bytes_push [] w = append-nil (low_first 4 w)
-word_bytes_push (x ∷ ws) w = ap (λ (xs : List ℕ). low_first 4 x ++ xs) (word_bytes_push ws w) ∙ sym (append_assoc (low_first 4 x) (word_bytes ws) (low_first 4 w))
 
 -- one word more is written behind a front
 pub words_more : (out after ws front bytes : List ℕ) (i place : ℕ) → i < length ws → place ≡ word_place i → bytes ≡ low_first 4 (get_or ws i 0) → take (word_place i) out ≡ front ++ word_bytes (take i ws) → take (place + length bytes) after ≡ take place out ++ bytes → take (word_place (i + 1)) after ≡ front ++ word_bytes (take (i + 1) ws)
@@ -63,8 +54,8 @@ words_more out after ws front bytes i place h at are before put =
     ∙ ap (λ (k : ℕ). take k out ++ bytes) at
     ∙ ap (λ (xs : List ℕ). xs ++ bytes) before
     ∙ ap (λ (xs : List ℕ). (front ++ word_bytes (take i ws)) ++ xs) are
-    ∙ append_assoc front (word_bytes (take i ws)) (low_first 4 (get_or ws i 0))
-    ∙ ap (λ (xs : List ℕ). front ++ xs) (sym (ap word_bytes (take_more ws i 0 h) ∙ word_bytes_push (take i ws) (get_or ws i 0)))
+    ∙ flat_map_more (low_first 4) front (take i ws) (get_or ws i 0)
+    ∙ ap (λ (xs : List ℕ). front ++ word_bytes xs) (sym (take_more ws i 0 h))
 
 pub words_all : (out ws front : List ℕ) (i : ℕ) → i ≡ 16 → length ws ≡ 16 → length out ≡ 80 → take (word_place i) out ≡ front ++ word_bytes (take i ws) → out ≡ front ++ word_bytes ws
 words_all out ws front i e l o before = sym (take_all (word_place i) out (omega arith)) ∙ before ∙ ap (λ (xs : List ℕ). front ++ word_bytes xs) (take_all i ws (omega arith))

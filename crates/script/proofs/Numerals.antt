@@ -1,26 +1,24 @@
 -- Reading a number, character by character, and writing one, digit by digit.
 use Rattle.std.proofs.Common.{◌≡◌, ℕ, suc, ◌+◌, ◌-◌, ◌*◌, ◌/◌, ◌%◌, ◌^◌, ◌<◌, ◌≤◌, List, [], ◌∷◌, ◌++◌, length, get_or, drop, set, Some, None, Option, sym, ap, ◌∙◌, append_assoc, mul-le-mul_right, add-mul, pow-suc, add-one, arith}
 use native.Mathlib.Nat.{pow-le-pow_right}
-use Rattle.std.proofs.lemmas.List.{at_drop_more, at_drop_all, drop-set, drop_all, append-nil}
-use Rattle.script.specs.Digits.{and_then, digit_of, digit_char, digits, numeral_after}
+use Rattle.std.specs.Option.{option_and_then}
+use Rattle.std.proofs.lemmas.List.{at_drop_more, drop-set, drop_all, append-nil}
+use Rattle.script.specs.Digits.{digit_of, digit_char, digits, numeral_after}
 
 module _ (base : ℕ) (text : List ℕ) (i n c : ℕ) (h : i < length text) (at : c ≡ get_or text i 0) (all : Option ℕ) where
-  here : numeral_after base n (drop i text) ≡ and_then (digit_of base c) (λ d. numeral_after base (n * base + d) (drop (i + 1) text))
-  here = at_drop_more (numeral_after base n) text i 0 h ∙ ap (λ (x : ℕ). and_then (digit_of base x) (λ d. numeral_after base (n * base + d) (drop (i + 1) text))) (sym at)
+  here : numeral_after base n (drop i text) ≡ option_and_then (λ d. numeral_after base (n * base + d) (drop (i + 1) text)) (digit_of base c)
+  here = at_drop_more (numeral_after base n) text i 0 h ∙ ap (λ (x : ℕ). option_and_then (λ d. numeral_after base (n * base + d) (drop (i + 1) text)) (digit_of base x)) (sym at)
 
   -- one digit more
   pub numeral_more : (d : ℕ) → Some d ≡ digit_of base c → numeral_after base n (drop i text) ≡ all → numeral_after base (n * base + d) (drop (i + 1) text) ≡ all
-  numeral_more d e p = ap (λ (o : Option ℕ). and_then o (λ x. numeral_after base (n * base + x) (drop (i + 1) text))) e ∙ sym here ∙ p
+  numeral_more d e p = ap (λ (o : Option ℕ). option_and_then (λ x. numeral_after base (n * base + x) (drop (i + 1) text)) o) e ∙ sym here ∙ p
 
   -- a character that is no digit
   pub numeral_none : None ≡ digit_of base c → numeral_after base n (drop i text) ≡ all → None ≡ all
-  numeral_none e p = ap (λ (o : Option ℕ). and_then o (λ x. numeral_after base (n * base + x) (drop (i + 1) text))) e ∙ sym here ∙ p
-
-pub numeral_all : (base : ℕ) (text : List ℕ) (i n : ℕ) (all : Option ℕ) → length text ≤ i → numeral_after base n (drop i text) ≡ all → Some n ≡ all
-numeral_all base text i n all h p = sym (at_drop_all (numeral_after base n) text i h) ∙ p
+  numeral_none e p = ap (λ (o : Option ℕ). option_and_then (λ x. numeral_after base (n * base + x) (drop (i + 1) text)) o) e ∙ sym here ∙ p
 
 pow_more : (base i : ℕ) → base ^ (i + 1) ≡ base ^ i * base
-pow_more base i = ap (λ (k : ℕ). base ^ k) (add-one i) ∙ pow-suc base i
+pow_more base i = rw (add-one, pow-suc)
 
 -- so many digits stay below the power of the base
 pub bound_more : (base n d i : ℕ) → n < base ^ i → d < base → n * base + d < base ^ (i + 1)

@@ -1,11 +1,13 @@
 -- Numbers as scripts and listings write them: digits of a base, the most significant first, letters lowercase.
 use Rattle.std.specs.Prelude.{ℕ, zero, suc, ◌+◌, ◌-◌, ◌*◌, ◌/◌, ◌%◌, cond, List, [], ◌∷◌, ◌++◌, Some, None, Option, nat_lt}
 use Rattle.wire.specs.Questions.{inside}
+use Rattle.script.specs.Steps.{◌>>=◌}
+use Rattle.script.specs.declared.digits.Base.{Base}
+use Rattle.script.specs.declared.digits.Base.TheVariants.{Ten, Sixteen}
 
--- f of what there is
-abbrev pub and_then : {A B : Type 0} → Option A → (A → Option B) → Option B
-and_then None f = None
-and_then (Some x) f = f x
+abbrev pub base_number : Base → ℕ
+base_number Ten = 10
+base_number Sixteen = 16
 
 -- the character of a digit: 0 to 9, then a to f
 abbrev pub digit_char : ℕ → ℕ
@@ -26,7 +28,7 @@ digits base (suc width) n = digits base width (n / base) ++ digit_char (n % base
 -- the number that characters go on to write where n stands before them
 abbrev pub numeral_after : ℕ → ℕ → List ℕ → Option ℕ
 numeral_after base n [] = Some n
-numeral_after base n (c ∷ cs) = and_then (digit_of base c) (λ d. numeral_after base (n * base + d) cs)
+numeral_after base n (c ∷ cs) = digit_of base c >>= (λ d. numeral_after base (n * base + d) cs)
 
 -- the number that characters write, if each is a digit
 abbrev pub numeral : ℕ → List ℕ → Option ℕ

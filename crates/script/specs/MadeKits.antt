@@ -1,9 +1,9 @@
 -- The kit that a record made.
-use Rattle.std.specs.Prelude.{ℕ, List}
+use Rattle.std.specs.Prelude.{ℕ, List, Some, None, Option}
 use Rattle.wire.specs.Rows.{row}
 use Rattle.wire.specs.declared.message.Message.{Message}
 use Rattle.kit.specs.Kits.{kit_of}
-use Rattle.script.specs.Plays.{Bench, loading}
+use Rattle.script.specs.Plays.{Bench, no_kit, loading}
 use Rattle.script.specs.declared.call.LinkKind.TheVariants.{Queue, Pool}
 use Rattle.script.specs.declared.turn.MadeKit.{MadeKit}
 use Rattle.script.specs.declared.turn.MadeKit.TheVariants.{OverQueue, OverPool}
@@ -13,11 +13,16 @@ abbrev pub bench_of : MadeKit → Bench
 bench_of (OverQueue k) = loading Queue (kit_of k.cluster)
 bench_of (OverPool k) = loading Pool (kit_of k.cluster)
 
+-- the bench that may have one
+abbrev pub bench_with : Option MadeKit → Bench
+bench_with None = no_kit
+bench_with (Some k) = bench_of k
+
 -- the limit of its link, and the messages on it
 abbrev pub limit_of : MadeKit → ℕ
-limit_of (OverQueue k) = k.link.row.limit
-limit_of (OverPool k) = k.link.row.limit
+limit_of (OverQueue k) = k.link.limit
+limit_of (OverPool k) = k.link.limit
 
 abbrev pub messages_on : MadeKit → List Message
-messages_on (OverQueue k) = row k.link.row
-messages_on (OverPool k) = row k.link.row
+messages_on (OverQueue k) = row k.link
+messages_on (OverPool k) = row k.link

@@ -4,9 +4,9 @@ use Rattle.wire.specs.Links.{largest_limit}
 use Rattle.wire.specs.Questions.{first_no}
 use Rattle.kit.specs.KitQuestions.{making_questions, place_questions}
 use Rattle.kit.specs.Kits as kits
-use Rattle.script.specs.Digits.{and_then}
 use Rattle.script.specs.Lines.{line_of, refused_line, text}
 use Rattle.script.specs.Records.{records, form, letter_k}
+use Rattle.script.specs.Steps.{◌>>=◌}
 use Rattle.script.specs.declared.answer.Answer.{Answer}
 use Rattle.script.specs.declared.answer.Answer.TheVariants.{Made, Placed}
 use Rattle.script.specs.declared.call.Call.{Call}
@@ -26,12 +26,12 @@ pub record Done : Type 0 where
 
 -- What a call does where it belongs: until a kit is made only K, and after it none; P while the kit is loading. L, S and D come with the running kit.
 abbrev pub carried_out : Bench → Call → Option Done
-carried_out no_kit (Kit n p link) = Some (record { answer = Made n p link; bench = loading link (kits.start_kit n p) })
+carried_out no_kit (Kit plan) = Some (record { answer = Made plan; bench = loading plan.link (kits.start_kit plan.boards plan.pages) })
 carried_out no_kit (Place a w) = None
 carried_out no_kit (Load b a) = None
 carried_out no_kit (Store b a w) = None
 carried_out no_kit (Deliver pick) = None
-carried_out (loading link k) (Kit n p another) = None
+carried_out (loading link k) (Kit plan) = None
 carried_out (loading link k) (Place a w) = Some (record { answer = Placed a w; bench = loading link (kits.placed k a w) })
 carried_out (loading link k) (Load b a) = None
 carried_out (loading link k) (Store b a w) = None
@@ -42,12 +42,12 @@ belongs s c = is_some (carried_out s c)
 
 -- the questions of a call that belongs
 abbrev pub call_questions : Bench → Call → List (ℕ × Bool)
-call_questions no_kit (Kit n p link) = making_questions n p largest_limit 0
+call_questions no_kit (Kit plan) = making_questions plan.boards plan.pages largest_limit 0
 call_questions no_kit (Place a w) = []
 call_questions no_kit (Load b a) = []
 call_questions no_kit (Store b a w) = []
 call_questions no_kit (Deliver pick) = []
-call_questions (loading link k) (Kit n p another) = []
+call_questions (loading link k) (Kit plan) = []
 call_questions (loading link k) (Place a w) = place_questions k.pages a
 call_questions (loading link k) (Load b a) = []
 call_questions (loading link k) (Store b a w) = []
@@ -70,7 +70,7 @@ decided None (Some result) = accepted result
 decided None None = refused 18
 
 abbrev pub outcome_of : Bench → Option Call → Outcome
-outcome_of s call = decided (first_no (record_questions s call)) (and_then call (carried_out s))
+outcome_of s call = decided (first_no (record_questions s call)) (call >>= carried_out s)
 
 abbrev pub outcome : Bench → List ℕ → Outcome
 outcome s r = outcome_of s (form r)

@@ -1,11 +1,13 @@
 -- The records of a script: sixteen characters each.
 use Rattle.std.specs.Prelude.{ℕ, ◌+◌, ◌-◌, ◌*◌, ◌/◌, ◌%◌, min, Bool, cond, ◌&&◌, List, map, length, take, drop, Some, None, Option, ◌==◌, slice_index}
 use Rattle.std.specs.List.{between, range_with_len}
-use Rattle.script.specs.Digits.{and_then, numeral}
+use Rattle.script.specs.Digits.{numeral}
+use Rattle.script.specs.Steps.{◌>>=◌}
 use Rattle.script.specs.declared.call.Call.{Call}
 use Rattle.script.specs.declared.call.Call.TheVariants.{Kit, Place, Load, Store, Deliver}
 use Rattle.script.specs.declared.call.LinkKind.{LinkKind}
 use Rattle.script.specs.declared.call.LinkKind.TheVariants.{Queue, Pool}
+use Rattle.script.specs.declared.numbers.Numbers.{Numbers}
 
 -- record i begins at character 16 i; the last may be cut short
 abbrev pub record_at : List ℕ → ℕ → List ℕ
@@ -31,7 +33,7 @@ link_of n = cond (n == link_number Queue) (Some Queue) (cond (n == link_number P
 
 abbrev pub kit_call : ℕ → ℕ → Option LinkKind → Option Call
 kit_call n p None = None
-kit_call n p (Some link) = Some (Kit n p link)
+kit_call n p (Some link) = Some (Kit (record { boards = n; pages = p; link = link }))
 
 -- the letters K, P, L, S and D
 abbrev pub letter_k : ℕ
@@ -50,25 +52,26 @@ abbrev pub letter_d : ℕ
 letter_d = 68
 
 -- the call that a letter makes of its numbers; those that it has no use for are zero
-abbrev pub call_of : ℕ → ℕ → ℕ → ℕ → Option Call
-call_of letter two three eight =
-    cond (letter == letter_k) (kit_call two three (link_of eight))
-    (cond (letter == letter_p) (cond (two == 0) (Some (Place three eight)) None)
-    (cond (letter == letter_l) (cond (eight == 0) (Some (Load two three)) None)
-    (cond (letter == letter_s) (Some (Store two three eight))
-    (cond (letter == letter_d) (cond (two == 0 && eight == 0) (Some (Deliver three)) None) None))))
+abbrev pub call_of : ℕ → Numbers → Option Call
+call_of letter n =
+    cond (letter == letter_k) (kit_call n.two n.three (link_of n.eight))
+    (cond (letter == letter_p) (cond (n.two == 0) (Some (Place n.three n.eight)) None)
+    (cond (letter == letter_l) (cond (n.eight == 0) (Some (Load n.two n.three)) None)
+    (cond (letter == letter_s) (Some (Store n.two n.three n.eight))
+    (cond (letter == letter_d) (cond (n.two == 0 && n.eight == 0) (Some (Deliver n.three)) None) None))))
 
 -- sixteen characters, of which the last two are a space and a newline
 abbrev pub framed : List ℕ → Bool
 framed r = length r == 16 && slice_index r 14 == 32 && slice_index r 15 == 10
 
 -- before them a letter, two and three decimal digits, and eight hexadecimal digits
-abbrev pub numbers_of : List ℕ → Option Call
-numbers_of r =
-    and_then (numeral 10 (between 1 3 r)) (λ two.
-    and_then (numeral 10 (between 3 6 r)) (λ three.
-    and_then (numeral 16 (between 6 14 r)) (λ eight. call_of (slice_index r 0) two three eight)))
+abbrev pub numbers_in : List ℕ → Option Numbers
+numbers_in r = do
+  two ← numeral 10 (between 1 3 r)
+  three ← numeral 10 (between 3 6 r)
+  eight ← numeral 16 (between 6 14 r)
+  Some (record { two = two; three = three; eight = eight })
 
 -- the call that a record asks for, if its characters are all of their form
 abbrev pub form : List ℕ → Option Call
-form r = cond (framed r) (numbers_of r) None
+form r = cond (framed r) (numbers_in r >>= call_of (slice_index r 0)) None

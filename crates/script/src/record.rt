@@ -1,65 +1,67 @@
-ghost use Rattle.std.specs.Prelude.{◌≡◌, ◌<◌, [], ◌∷◌, length, is_some, IfOk, Some};
+ghost use Rattle.std.specs.Prelude.{◌≡◌, ◌<◌, [], ◌∷◌, length, is_some, IfOk, IfSome, Some, ok_or};
 ghost use Rattle.wire.specs.Questions.{refusal, first_no};
-ghost use Rattle.script.specs.Records.{link_of, call_of, numbers_of, form};
+ghost use Rattle.script.specs.Records.{call_of, form, framed, numbers_in};
+ghost use Rattle.wire.specs.declared.fault.Fault.TheVariants.{BadForm};
 
-use crate::call::{Call, LinkKind};
-use crate::digits::read_number;
+use crate::call::{Call, KitPlan};
+use crate::digits::{Base, read_number};
+use crate::numbers::Numbers;
 use wire::fault::Fault;
 
-/// The link that a script's number names.
-fn read_link(number: u32) -> Option<LinkKind>
-    ensures { result ≡ link_of number }
+/// How many characters a record has.
+pub(crate) const RECORD_LENGTH: usize = 16;
+
+/// Is a record whole, and are its last two characters a space and a newline?
+fn is_framed(text: &[u8]) -> bool
+    ensures { result ≡ framed text.now }
 {
-    match number {
-        0 => Some(LinkKind::Queue),
-        1 => Some(LinkKind::Pool),
-        _ => None,
-    }
+    text.len() == RECORD_LENGTH && text[14] == b' ' && text[15] == b'\n'
+}
+
+/// The numbers that the digits of a record write.
+fn read_numbers(text: &[u8]) -> Option<Numbers>
+    requires { length text.now ≡ 16 }
+    ensures value { result ≡ numbers_in text.now }
+    ensures two { IfSome result (λ n. n.two < 100) }
+    ensures three { IfSome result (λ n. n.three < 1000) }
+{
+    Some(Numbers {
+        two: read_number(Base::Ten, &text[1..3])?,
+        three: read_number(Base::Ten, &text[3..6])?,
+        eight: read_number(Base::Sixteen, &text[6..14])?,
+    })
 }
 
 /// The call that a letter makes of its numbers. Those that it has no use for are zero.
-fn name_call(letter: char, two: u32, three: u32, eight: u32) -> Option<Call>
-    requires two { two < 100 }
-    requires three { three < 1000 }
-    ensures { result ≡ call_of letter two three eight }
+fn name_call(letter: char, numbers: Numbers) -> Result<Call, Fault>
+    requires two { numbers.two < 100 }
+    requires three { numbers.three < 1000 }
+    ensures { result ≡ ok_or (call_of letter numbers) BadForm }
 {
+    let Numbers { two, three, eight } = numbers;
     let board = two as u8;
     match letter {
-        'K' => match read_link(eight) {
-            Some(link) => Some(Call::Kit {
-                boards: board,
-                pages: three,
-                link,
-            }),
-            None => None,
-        },
-        'P' if two == 0 => Some(Call::Place {
+        'K' => Ok(Call::Kit(KitPlan {
+            boards: board,
+            pages: three,
+            link: eight.try_into()?,
+        })),
+        'P' if two == 0 => Ok(Call::Place {
             address: three,
             word: eight,
         }),
-        'L' if eight == 0 => Some(Call::Load {
+        'L' if eight == 0 => Ok(Call::Load {
             board,
             address: three,
         }),
-        'S' => Some(Call::Store {
+        'S' => Ok(Call::Store {
             board,
             address: three,
             word: eight,
         }),
-        'D' if two == 0 && eight == 0 => Some(Call::Deliver { pick: three as u16 }),
-        _ => None,
+        'D' if two == 0 && eight == 0 => Ok(Call::Deliver { pick: three as u16 }),
+        _ => Err(Fault::BadForm),
     }
-}
-
-/// The call that the letter and the digits of a record make.
-fn read_numbers(text: &[u8]) -> Option<Call>
-    requires { length text.now ≡ 16 }
-    ensures { result ≡ numbers_of text.now }
-{
-    let two = read_number(10, &text[1..3])?;
-    let three = read_number(10, &text[3..6])?;
-    let eight = read_number(16, &text[6..14])?;
-    name_call(char::from(text[0]), two, three, eight)
 }
 
 /// The call that a record asks for. One of another length, as a last record cut short, breaks the form.
@@ -67,11 +69,9 @@ pub fn read_call(text: &[u8]) -> Result<Call, Fault>
     ensures refused { refusal result ≡ first_no ((17, is_some (form text.now)) ∷ []) }
     ensures call { IfOk result (λ c. form text.now ≡ Some c) }
 {
-    if text.len() != 16 || text[14] != b' ' || text[15] != b'\n' {
+    if !is_framed(text) {
         return Err(Fault::BadForm);
     }
-    match read_numbers(text) {
-        Some(call) => Ok(call),
-        None => Err(Fault::BadForm),
-    }
+    let numbers = read_numbers(text).ok_or(Fault::BadForm)?;
+    name_call(char::from(text[0]), numbers)
 }

@@ -9,6 +9,6 @@ mod scripts;
 fn refusal<T: Drop>(r: Result<T, Fault>) -> u16 {
     match r {
         Ok(_) => 0,
-        Err(fault) => fault.number(),
+        Err(fault) => u16::from(fault),
     }
 }

@@ -6,9 +6,9 @@ use Rattle.wire.specs.Bags.{Bag, empty, ◌&◌, either_order, total, size, bag,
 pub swap : {X : Type 0} (x y : X) (b : Bag X) → x & y & b ≡ y & x & b
 swap x y b = λ i. either_order x y b i
 
-pub size-bag : {X : Type 0} (xs : List X) → size (bag xs) ≡ length xs
-size-bag [] = refl
-size-bag (x ∷ xs) = omega (arith, size-bag xs)
+pub size_bag : {X : Type 0} (xs : List X) → size (bag xs) ≡ length xs
+size_bag [] = refl
+size_bag (x ∷ xs) = omega (arith, size_bag xs)
 
 pub bag_push : {X : Type 0} (xs : List X) (x : X) → bag (xs ++ x ∷ []) ≡ x & bag xs
 bag_push [] x = refl
@@ -35,3 +35,6 @@ adds_removed xs ys i x h e f = let b = bag_removed xs i x h in adds (cc)
 pub empty_list : {X : Type 0} (xs : List X) → length xs ≡ 0 → Empty (bag xs)
 empty_list [] e = is_empty refl
 empty_list (x ∷ xs) e = absurd (omega arith)
+
+pub empty_bag : {X : Type 0} (xs : List X) → xs ≡ [] → Empty (bag xs)
+empty_bag xs e = is_empty (ap bag e)

@@ -1,9 +1,9 @@
 -- A set of boards as a number gives the set again, and a number of sixteen bits the number.
-use Rattle.std.proofs.Common.{◌≡◌, ℕ, zero, suc, ◌+◌, ◌-◌, ◌*◌, ◌/◌, ◌%◌, ◌^◌, ◌<◌, ◌≤◌, Bool, true, false, cond, eqb, List, [], ◌∷◌, map, length, get_or, drop, sym, ap, ◌∙◌, pow-suc, add-one, one-add, arith, pow_mono}
+use Rattle.std.proofs.Common.{◌≡◌, ℕ, zero, suc, ◌+◌, ◌*◌, ◌/◌, ◌%◌, ◌^◌, ◌<◌, ◌≤◌, Bool, true, false, cond, eqb, List, [], ◌∷◌, map, length, get_or, ◌++◌, sym, refl, ap, ◌∙◌, append_assoc, pow-suc, add-one, one-add, arith, pow_mono}
 use Rattle.std.specs.List.{range_with_len}
 use Rattle.std.proofs.lemmas.Nat.{shr-shr, mod-pow-add}
 use Rattle.std.proofs.lemmas.List.FromFn.{fill_by_all}
-use Rattle.std.proofs.lemmas.List.{at_drop_more, at_drop_all, length-drop}
+use Rattle.std.proofs.lemmas.List.{append-nil, length-append}
 use Rattle.std.proofs.lemmas.Bool.Decides.{nat_tests}
 use Rattle.wire.specs.declared.board_set.BoardSet.{BoardSet}
 use Rattle.wire.specs.BoardBits.{bits, bit, set_bits, set_of_bits}
@@ -53,24 +53,28 @@ pub bits_back : (n : ℕ) → n < 2 ^ 16 → set_bits (set_of_bits n) ≡ n
 unfolding set_of_bits
 bits_back n h = bits_of_bit n 0 16 ∙ omega arith
 
--- one place more, from the highest on down
-pub bits_more : (bs : List Bool) (i n : ℕ) → 0 < i → i ≤ length bs → n ≡ bits (drop i bs) → cond (get_or bs (i - 1) false) 1 0 + 2 * n ≡ bits (drop (i - 1) bs)
-bits_more bs i n h l e =
-    let back : i - 1 + 1 ≡ i = omega arith in
-    let here : bits (drop (i - 1) bs) ≡ cond (get_or bs (i - 1) false) 1 0 + 2 * bits (drop (i - 1 + 1) bs) = at_drop_more bits bs (i - 1) false (omega arith) in
-    let same : bits (drop (i - 1 + 1) bs) ≡ bits (drop i bs) = ap (λ (k : ℕ). bits (drop k bs)) back in
-    omega arith
+-- The bits of the sets' last boards are those of done; the boards before them are still to come, the last of these next.
+pub record Counted (bs rest : List Bool) (n : ℕ) : Type 0 where
+  pub done : List Bool
+  pub both : rest ++ done ≡ bs
+  pub number : n ≡ bits done
+
+pub counted_none : (bs rest : List Bool) → rest ≡ bs → Counted bs rest 0
+counted_none bs rest e = record { done = []; both = append-nil rest ∙ e; number = refl }
 
 -- one bit more stays within sixteen
-pub bits_room : (bs : List Bool) (i n : ℕ) → length bs ≡ 16 → 0 < i → n ≡ bits (drop i bs) → 1 + 2 * n < 2 ^ 16
-bits_room bs i n l h e =
-    let few : length (drop i bs) ≤ 15 = omega (arith, length-drop i bs) in
-    omega (arith, bits_below (drop i bs), pow_mono {i = length (drop i bs)} {j = 15} few)
+pub counted_room : (bs rest fewer : List Bool) (b : Bool) (n : ℕ) → length bs ≡ 16 → rest ≡ fewer ++ b ∷ [] → Counted bs rest n → n < 2 ^ 15
+counted_room bs rest fewer b n l e c =
+    let few : length c.done ≤ 15 = omega (arith, ap length c.both, ap length e, length-append rest c.done, length-append fewer (b ∷ [])) in
+    omega (arith, bits_below c.done, c.number, pow_mono {i = length c.done} {j = 15} few)
 
-pub bits_none : (bs : List Bool) → length bs ≡ 16 → 0 ≡ bits (drop 16 bs)
-bits_none bs l = sym (at_drop_all bits bs 16 (omega arith))
+pub counted_more : (bs rest fewer : List Bool) (b : Bool) (n m : ℕ) → rest ≡ fewer ++ b ∷ [] → m ≡ cond b 1 0 + 2 * n → Counted bs rest n → Counted bs fewer m
+counted_more bs rest fewer b n m e f c = record {
+  done = b ∷ c.done;
+  both = sym (append_assoc fewer (b ∷ []) c.done) ∙ ap (λ (xs : List Bool). xs ++ c.done) (sym e) ∙ c.both;
+  number = f ∙ ap (λ (k : ℕ). cond b 1 0 + 2 * k) c.number;
+}
 
--- a set is filled, board by board, as the bits say
-pub filled_all : (n : ℕ) (bs : List Bool) → length bs ≡ 16 → ((k : ℕ) → k < 16 → get_or bs k false ≡ bit n k) → record { members = bs } ≡ set_of_bits n
-unfolding set_of_bits
-filled_all n bs l f = ap (λ (xs : List Bool). record { members = xs }) (fill_by_all (bit n) bs 16 false l f)
+pub counted_all : (bs rest : List Bool) (n : ℕ) → length rest ≡ 0 → Counted bs rest n → n ≡ bits bs
+counted_all bs [] n e c = c.number ∙ ap bits c.both
+counted_all bs (b ∷ rest) n e c = absurd (omega arith)

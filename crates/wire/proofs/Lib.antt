@@ -1,4 +1,5 @@
 pub mod Bags
+pub mod FromFn
 pub mod BoardSets
 pub mod BoardBits
 pub mod Gaps

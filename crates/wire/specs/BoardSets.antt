@@ -17,8 +17,12 @@ is_empty s = none_of s.members
 abbrev pub no_boards : BoardSet
 no_boards = record { members = replicate 16 false }
 
+-- the set in which a board is a member or not
+abbrev pub with_mark : BoardSet → ℕ → Bool → BoardSet
+with_mark s board member = record { members = slice_set s.members board member }
+
 abbrev pub with_member : BoardSet → ℕ → BoardSet
-with_member s board = record { members = slice_set s.members board true }
+with_member s board = with_mark s board true
 
 abbrev pub without_member : BoardSet → ℕ → BoardSet
-without_member s board = record { members = slice_set s.members board false }
+without_member s board = with_mark s board false

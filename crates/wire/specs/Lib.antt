@@ -3,6 +3,7 @@ pub mod Questions
 pub mod Kinds
 pub mod BoardSets
 pub mod BoardBits
+pub mod Messages
 pub mod Bags
 pub mod Gaps
 pub mod Rows

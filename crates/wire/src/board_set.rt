@@ -1,10 +1,10 @@
 ghost use Rattle.std.specs.Prelude.{◌≡◌};
-ghost use Rattle.wire.specs.BoardSets.{has, is_empty, with_member, without_member};
+ghost use Rattle.wire.specs.BoardSets.{has, is_empty, with_member, without_member, with_mark};
 
 mod bits;
 
 /// A set of boards, numbered 0 to 15.
-#[derive(Clone, Copy)]
+#[derive(Clone, Copy, PartialEq, Eq, Debug)]
 pub struct BoardSet {
     members: [bool; 16],
 }
@@ -17,33 +17,35 @@ impl BoardSet {
     pub fn contains(&self, board: u8) -> bool
         ensures { result ≡ has self.now board }
     {
-        (board as usize) < 16 && self.members[board as usize]
+        self.members.get(board as usize) == Some(&true)
     }
 
+    #[tactic(auto, using(crate::proofs::BoardSets::none_of_any))]
     pub fn is_empty(&self) -> bool
         ensures { result ≡ is_empty self.now }
     {
-        for member in self.members {
-            if member {
-                return false;
-            }
-        }
-        true
+        !self.members.contains(&true)
     }
 
     pub fn insert(&mut self, board: u8)
         ensures { self.new ≡ with_member self.old board }
     {
-        if board < 16 {
-            self.members[board as usize] = true;
-        }
+        self.mark(board, true);
     }
 
     pub fn remove(&mut self, board: u8)
         ensures { self.new ≡ without_member self.old board }
     {
+        self.mark(board, false);
+    }
+
+    /// Makes a board a member or not, where there is such a board.
+    #[tactic(auto, using(std::proofs::lemmas::List::set_past))]
+    fn mark(&mut self, board: u8, member: bool)
+        ensures { self.new ≡ with_mark self.old board member }
+    {
         if board < 16 {
-            self.members[board as usize] = false;
+            self.members[board as usize] = member;
         }
     }
 }

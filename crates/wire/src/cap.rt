@@ -1,18 +1,34 @@
-ghost use Rattle.std.specs.Prelude.{◌≡◌, min, MatchResult};
+ghost use Rattle.std.specs.Prelude.{◌≡◌, min, IfOk, MatchResult};
 ghost use Rattle.std.proofs.Common.{rules};
 
 use crate::choice::Choice;
 use crate::fault::Fault;
-use crate::link::Link;
+use crate::link::{Link, ask_limit};
 use crate::message::Message;
-
-mod make;
 
 /// A layer over a link, on which at most `most` messages wait. Its choice is the one made below.
 #[derive(Drop)]
 pub struct Cap<L: Link> {
     below: L,
     most: u16,
+}
+
+impl<L: Link + Drop> Cap<L> {
+    ghost use Rattle.wire.specs.Bags.{size};
+    ghost use Rattle.wire.specs.Questions.{refusal, first_no};
+    ghost use Rattle.wire.specs.Links.{layer_questions};
+
+    /// A cap of `most` over an empty link.
+    pub fn new(below: L, most: u16) -> Result<Cap<L>, Fault>
+        ensures refused { refusal result ≡ first_no (layer_questions (size (L.waiting below)) most) }
+        ensures made { IfOk result (λ c. (c.below ≡ below) × (c.most ≡ most)) }
+    {
+        if below.count() != 0 {
+            return Err(Fault::LinkNotEmpty);
+        }
+        ask_limit(most)?;
+        Ok(Cap { below, most })
+    }
 }
 
 impl<L: Link> Choice for Cap<L> {

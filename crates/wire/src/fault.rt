@@ -1,45 +1,29 @@
 ghost use Rattle.std.specs.Prelude.{◌≡◌};
 ghost use Rattle.wire.specs.Faults.{number};
 
-/// Why a call is refused.
+/// Why a call is refused, with the number that its refusal answers.
 #[derive(Clone, Copy, PartialEq, Eq, Debug)]
 pub enum Fault {
-    NoSuchAddress,
-    BoardsOutOfRange,
-    PagesOutOfRange,
-    LimitTooLow,
-    LinkNotEmpty,
-    LimitOutOfRange,
-    LinkFull,
-    WrongLength,
-    NoSuchKind,
-    BadParties,
-    PageOrHopsTooLarge,
-    BrokenKindForm,
-    BadForm,
-    OutOfPlace,
+    NoSuchAddress = 2,
+    BoardsOutOfRange = 4,
+    PagesOutOfRange = 5,
+    LimitTooLow = 6,
+    LinkNotEmpty = 7,
+    LimitOutOfRange = 8,
+    LinkFull = 9,
+    WrongLength = 10,
+    NoSuchKind = 11,
+    BadParties = 12,
+    PageOrHopsTooLarge = 13,
+    BrokenKindForm = 14,
+    BadForm = 17,
+    OutOfPlace = 18,
 }
 
-impl Fault {
-    /// The number that a refusal answers.
-    pub fn number(self) -> u16
-        ensures { result ≡ number self }
-    {
-        match self {
-            Fault::NoSuchAddress => 2,
-            Fault::BoardsOutOfRange => 4,
-            Fault::PagesOutOfRange => 5,
-            Fault::LimitTooLow => 6,
-            Fault::LinkNotEmpty => 7,
-            Fault::LimitOutOfRange => 8,
-            Fault::LinkFull => 9,
-            Fault::WrongLength => 10,
-            Fault::NoSuchKind => 11,
-            Fault::BadParties => 12,
-            Fault::PageOrHopsTooLarge => 13,
-            Fault::BrokenKindForm => 14,
-            Fault::BadForm => 17,
-            Fault::OutOfPlace => 18,
-        }
+impl From<Fault> for u16 {
+    ghost from_gives = { λ fault n. n ≡ number fault };
+
+    fn from(fault: Fault) -> u16 {
+        fault as u16
     }
 }

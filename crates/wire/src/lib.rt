@@ -7,6 +7,7 @@ pub mod fault;
 pub mod gap;
 pub mod link;
 pub mod message;
+pub mod order;
 pub mod pool;
 pub mod queue;
-mod row;
+pub mod row;

@@ -1,6 +1,7 @@
 ghost use Rattle.std.specs.Prelude.{◌≡◌, ℕ, ◌≤◌};
 ghost use Rattle.wire.specs.Bags.{Bag, size};
-ghost use Rattle.wire.specs.Links.{Posted, Taken, NeverOver};
+ghost use Rattle.wire.specs.Questions.{refusal, first_no};
+ghost use Rattle.wire.specs.Links.{limit_questions, Posted, Taken, NeverOver};
 ghost use Rattle.wire.specs.declared.message.Message.{Message as Item};
 
 use crate::choice::Choice;
@@ -9,6 +10,16 @@ use crate::message::Message;
 
 /// The largest limit that a link or a cap is made with.
 pub const LARGEST_LIMIT: u16 = 288;
+
+/// Is a limit in range?
+pub(crate) fn ask_limit(limit: u16) -> Result<(), Fault>
+    ensures { refusal result ≡ first_no (limit_questions limit) }
+{
+    if !(1..=LARGEST_LIMIT).contains(&limit) {
+        return Err(Fault::LimitOutOfRange);
+    }
+    Ok(())
+}
 
 /// What carries messages between boards: its limit, and the messages that wait on it, are all that it means.
 pub trait Link: Choice {
@@ -38,6 +49,7 @@ pub trait Link: Choice {
 }
 
 /// Never do more messages wait than the limit, whatever is called on a link that began empty.
+#[tactic(auto, using(crate::proofs::Bounds::never_over))]
 pub fn never_over_the_limit<L: Link>(_link: &L)
     ensures { NeverOver L.limit L.waiting }
 {}

@@ -1,52 +1,51 @@
 ghost use Rattle.std.specs.Prelude.{◌≡◌};
+ghost use Rattle.std.specs.Option.{ok_or};
 ghost use Rattle.wire.specs.Kinds.{kind_number, kind_numbered};
+ghost use Rattle.wire.specs.Messages.{blank};
+ghost use Rattle.wire.specs.declared.fault.Fault.TheVariants.{NoSuchKind};
 
 use crate::board_set::BoardSet;
+use crate::fault::Fault;
 
-/// What a message is for.
+/// What a message is for, with its number in records and listings.
 #[derive(Clone, Copy, PartialEq, Eq, Debug)]
 pub enum Kind {
-    ReadRequest,
-    WriteRequest,
-    Copy,
-    Grant,
-    Invalidate,
-    Acknowledgement,
+    ReadRequest = 1,
+    WriteRequest = 2,
+    Copy = 3,
+    Grant = 4,
+    Invalidate = 5,
+    Acknowledgement = 6,
 }
 
-impl Kind {
-    /// The kind's number in records and listings.
-    pub fn number(self) -> u8
-        ensures { result ≡ kind_number self }
-    {
-        match self {
-            Kind::ReadRequest => 1,
-            Kind::WriteRequest => 2,
-            Kind::Copy => 3,
-            Kind::Grant => 4,
-            Kind::Invalidate => 5,
-            Kind::Acknowledgement => 6,
-        }
-    }
+impl From<Kind> for u8 {
+    ghost from_gives = { λ kind n. n ≡ kind_number kind };
 
-    /// The kind that a number is of.
-    pub fn from_number(number: u8) -> Option<Kind>
-        ensures { result ≡ kind_numbered number }
-    {
+    fn from(kind: Kind) -> u8 {
+        kind as u8
+    }
+}
+
+impl TryFrom<u8> for Kind {
+    type Error = Fault;
+
+    ghost try_from_gives = { λ n r. r ≡ ok_or (kind_numbered n) NoSuchKind };
+
+    fn try_from(number: u8) -> Result<Kind, Fault> {
         match number {
-            1 => Some(Kind::ReadRequest),
-            2 => Some(Kind::WriteRequest),
-            3 => Some(Kind::Copy),
-            4 => Some(Kind::Grant),
-            5 => Some(Kind::Invalidate),
-            6 => Some(Kind::Acknowledgement),
-            _ => None,
+            1 => Ok(Kind::ReadRequest),
+            2 => Ok(Kind::WriteRequest),
+            3 => Ok(Kind::Copy),
+            4 => Ok(Kind::Grant),
+            5 => Ok(Kind::Invalidate),
+            6 => Ok(Kind::Acknowledgement),
+            _ => Err(Fault::NoSuchKind),
         }
     }
 }
 
 /// What boards send each other. `from` posts it, `asker` is the board whose access it serves, `copies` is a copy set.
-#[derive(Clone, Copy)]
+#[derive(Clone, Copy, PartialEq, Eq, Debug)]
 pub struct Message {
     pub kind: Kind,
     pub page: u32,
@@ -69,4 +68,13 @@ impl Message {
         copies: BoardSet::EMPTY,
         words: [0; 16],
     };
+}
+
+// What stands at the places of a row that no message waits at.
+impl Default for Message {
+    ghost is_default = { λ message. message ≡ blank };
+
+    fn default() -> Message {
+        Message::BLANK
+    }
 }

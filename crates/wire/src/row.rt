@@ -1,14 +1,101 @@
-ghost use Rattle.std.specs.Prelude.{◌≡◌, ◌≤◌, length};
+ghost use Rattle.std.specs.Prelude.{◌≡◌, ◌<◌, ◌≤◌, [], length, IfOk};
+ghost use Rattle.std.proofs.Common.{rules};
+ghost use Rattle.arrayvec.specs.ArrayVec.{array_vec_len};
 
+use crate::choice::Choice;
+use crate::fault::Fault;
+use crate::gap::take_out;
+use crate::link::{Link, ask_limit};
 use crate::message::Message;
+use crate::order::Order;
+use arrayvec::ArrayVec;
+use std::marker::PhantomData;
 
-mod calls;
-
-/// Messages in order of posting, with a limit on how many.
+/// A link that keeps its messages in order of posting, with a limit on how many, and hands over the one that its order names.
 #[derive(Drop)]
-pub(crate) struct Row {
-    messages: [Message; 288],
-    len: u16,
+pub struct Row<O> {
+    messages: ArrayVec<Message, 288>,
     limit: u16,
-    ghost within: { (len ≤ limit) × (limit ≤ 288) × (length messages ≡ 288) },
+    order: PhantomData<O>,
+    ghost within: { (array_vec_len messages ≤ limit) × (limit ≤ 288) },
+}
+
+impl<O> Row<O> {
+    ghost use Rattle.std.specs.List.{insert};
+    ghost use Rattle.wire.specs.Bags.{Adds, Empty};
+    ghost use Rattle.wire.specs.Questions.{refusal, first_no};
+    ghost use Rattle.wire.specs.Links.{limit_questions};
+    ghost use Rattle.wire.specs.Rows.{row, held};
+
+    /// An empty row on which `limit` messages may wait.
+    #[tactic(auto, using(crate::proofs::Bags::empty_bag))]
+    pub fn new(limit: u16) -> Result<Row<O>, Fault>
+        ensures refused { refusal result ≡ first_no (limit_questions limit) }
+        ensures made { IfOk result (λ s. Empty (held s) × (row s ≡ []) × (s.limit ≡ limit)) }
+    {
+        ask_limit(limit)?;
+        Ok(Row {
+            messages: ArrayVec::new(),
+            limit,
+            order: PhantomData,
+        })
+    }
+
+    /// Takes out the message at `place`.
+    fn take_at(&mut self, place: u16) -> Message
+        requires { place < length (row self.old) }
+        ensures limit { self.new.limit ≡ self.old.limit }
+        ensures chosen { row self.old ≡ insert (row self.new) place result }
+        ensures left { Adds result (held self.new) (held self.old) }
+    {
+        let message = take_out(self.messages.as_mut_slice(), place as usize);
+        self.messages.pop();
+        message
+    }
+}
+
+impl<O: Order> Choice for Row<O> {
+    ghost use Rattle.wire.specs.Links.{Joins, Chosen};
+    ghost use Rattle.wire.specs.Rows.{row};
+
+    ghost joins = { λ s message r after. Joins message r (row s) (row after) };
+
+    ghost chooses = { λ s pick r after. Chosen (O.place pick (length (row s))) r (row s) (row after) };
+}
+
+impl<O: Order> Link for Row<O> {
+    ghost use Rattle.wire.specs.Rows.{held};
+
+    ghost limit = { λ s. s.limit };
+
+    ghost waiting = { λ s. held s };
+
+    ghost bound = { Prim.search rules };
+
+    #[tactic(auto, using(crate::proofs::Bags::size_bag, crate::proofs::Bags::adds_push))]
+    fn post(&mut self, message: Message) -> Result<(), Fault> {
+        if self.count() >= self.limit {
+            return Err(Fault::LinkFull);
+        }
+        self.messages.push(message);
+        Ok(())
+    }
+
+    #[tactic(auto, using(crate::proofs::Bags::size_bag, crate::proofs::Bags::empty_list, crate::proofs::Rows::inside_row))]
+    fn take(&mut self, pick: u16) -> Option<Message> {
+        if self.messages.is_empty() {
+            return None;
+        }
+        let place = O::place(pick, self.count());
+        Some(self.take_at(place))
+    }
+
+    #[tactic(auto, using(crate::proofs::Bags::size_bag))]
+    fn count(&self) -> u16 {
+        self.messages.len() as u16
+    }
+
+    fn limit(&self) -> u16 {
+        self.limit
+    }
 }

@@ -66,7 +66,7 @@ fn placing(rt: HostRuntime) -> Result<(), Fail> {
         (16, 256, 2),
         (3, 47, 0),
         (3, 48, 2),
-        (16, 4_294_967_295, 2),
+        (16, u32::MAX, 2),
     ];
     for (pages, address, number) in cases {
         let mut kit = Loading::new(Queue::new(288)?, 3, pages)?;

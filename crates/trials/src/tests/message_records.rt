@@ -79,10 +79,9 @@ fn copy() -> Message {
 
 fn grant() -> Message {
     let mut message = bare(Kind::Grant, 7, 15, 6, 6, 1);
-    message.copies.insert(0);
-    message.copies.insert(3);
-    message.copies.insert(8);
-    message.copies.insert(15);
+    for board in [0, 3, 8, 15] {
+        message.copies.insert(board);
+    }
     message.words[1] = 0x0102_0304;
     message
 }
@@ -92,15 +91,7 @@ fn expect(rt: &impl Abort, message: Message, record: [u8; 80]) -> Result<(), Fai
     let mut out = [0xaa; 80];
     write_record(&message, &mut out)?;
     assert!(rt; out == record);
-    let read = read_record(&record)?;
-    assert_eq!(rt; read.kind, message.kind);
-    assert_eq!(rt; read.page, message.page);
-    assert_eq!(rt; read.from, message.from);
-    assert_eq!(rt; read.to, message.to);
-    assert_eq!(rt; read.asker, message.asker);
-    assert_eq!(rt; read.hops, message.hops);
-    assert_eq!(rt; read.copies.to_bits(), message.copies.to_bits());
-    assert!(rt; read.words == message.words);
+    assert_eq!(rt; read_record(&record)?, message);
     Ok(())
 }
 
@@ -122,58 +113,39 @@ fn each_kind(rt: HostRuntime) -> Result<(), Fail> {
     )
 }
 
-/// What a record with one byte damaged is refused with: a number for each byte of the head, one for all bytes of words, 0 where it
-/// is another record, which is then written back.
-fn expect_damaged(
-    rt: &impl Abort,
-    record: [u8; 80],
-    place: usize,
-    byte: u8,
-    head: [u16; 16],
-    word: u16,
-) -> Result<(), Fail> {
-    let mut damaged = record;
-    if place < 80 {
-        damaged[place] = byte;
-    }
-    let number = if place < 16 { head[place] } else { word };
-    match read_record(&damaged) {
+/// A record is refused with a number; where that is 0, it is read, and written back.
+fn expect_number(rt: &impl Abort, record: [u8; 80], number: u16) -> Result<(), Fail> {
+    match read_record(&record) {
         Ok(message) => {
             assert_eq!(rt; 0, number);
             let mut out = [0xaa; 80];
             write_record(&message, &mut out)?;
-            assert!(rt; out == damaged);
+            assert!(rt; out == record);
             Ok(())
         }
         Err(fault) => {
-            assert_eq!(rt; fault.number(), number);
+            assert_eq!(rt; u16::from(fault), number);
             Ok(())
-        },
+        }
     }
 }
 
-/// Each byte in turn becomes 255.
-fn expect_all_ones(
+/// Damages each byte in turn. Its refusal is a number for each byte of the head, one for all bytes of words, and 0 where it is
+/// another record.
+fn expect_damages<D: Fn(u8) -> u8>(
     rt: &impl Abort,
     record: [u8; 80],
+    damage: D,
     head: [u16; 16],
     word: u16,
-) -> Result<(), Fail> {
-    for place in 0..80usize {
-        expect_damaged(rt, record, place, 255, head, word)?;
-    }
-    Ok(())
-}
-
-/// The lowest bit of each byte in turn is turned round.
-fn expect_lowest_bits(
-    rt: &impl Abort,
-    record: [u8; 80],
-    head: [u16; 16],
-    word: u16,
-) -> Result<(), Fail> {
-    for place in 0..80usize {
-        expect_damaged(rt, record, place, record[place] ^ 1, head, word)?;
+) -> Result<(), Fail>
+    requires { D.IsAlwaysCallable damage }
+{
+    for (place, byte) in record.iter().enumerate() {
+        let mut damaged = record;
+        damaged[place] = damage(*byte);
+        let number = head.get(place).copied().unwrap_or(word);
+        expect_number(rt, damaged, number)?;
     }
     Ok(())
 }
@@ -187,12 +159,13 @@ fn bytes_of_ones(rt: HostRuntime) -> Result<(), Fail> {
     let of_grant = [
         11, 13, 12, 12, 12, 13, 14, 0, 14, 14, 14, 14, 14, 14, 14, 14,
     ];
-    expect_all_ones(&rt, READ_REQUEST, head, 14)?;
-    expect_all_ones(&rt, WRITE_REQUEST, head, 14)?;
-    expect_all_ones(&rt, COPY, head, 0)?;
-    expect_all_ones(&rt, GRANT, of_grant, 0)?;
-    expect_all_ones(&rt, INVALIDATE, head, 14)?;
-    expect_all_ones(&rt, ACKNOWLEDGEMENT, head, 14)
+    let ones = |_: u8| 255u8;
+    expect_damages(&rt, READ_REQUEST, ones, head, 14)?;
+    expect_damages(&rt, WRITE_REQUEST, ones, head, 14)?;
+    expect_damages(&rt, COPY, ones, head, 0)?;
+    expect_damages(&rt, GRANT, ones, of_grant, 0)?;
+    expect_damages(&rt, INVALIDATE, ones, head, 14)?;
+    expect_damages(&rt, ACKNOWLEDGEMENT, ones, head, 14)
 }
 
 #[test]
@@ -204,12 +177,13 @@ fn bytes_off_by_one(rt: HostRuntime) -> Result<(), Fail> {
     let of_grant = [14, 0, 0, 14, 14, 0, 0, 0, 14, 14, 14, 14, 14, 14, 14, 14];
     let of_invalidate = [14, 0, 14, 0, 14, 14, 14, 14, 14, 14, 14, 14, 14, 14, 14, 14];
     let of_acknowledgement = [11, 0, 0, 14, 14, 14, 14, 14, 14, 14, 14, 14, 14, 14, 14, 14];
-    expect_lowest_bits(&rt, READ_REQUEST, of_read_request, 14)?;
-    expect_lowest_bits(&rt, WRITE_REQUEST, of_write_request, 14)?;
-    expect_lowest_bits(&rt, COPY, of_copy, 0)?;
-    expect_lowest_bits(&rt, GRANT, of_grant, 0)?;
-    expect_lowest_bits(&rt, INVALIDATE, of_invalidate, 14)?;
-    expect_lowest_bits(&rt, ACKNOWLEDGEMENT, of_acknowledgement, 14)
+    let turned = |byte: u8| byte ^ 1;
+    expect_damages(&rt, READ_REQUEST, turned, of_read_request, 14)?;
+    expect_damages(&rt, WRITE_REQUEST, turned, of_write_request, 14)?;
+    expect_damages(&rt, COPY, turned, of_copy, 0)?;
+    expect_damages(&rt, GRANT, turned, of_grant, 0)?;
+    expect_damages(&rt, INVALIDATE, turned, of_invalidate, 14)?;
+    expect_damages(&rt, ACKNOWLEDGEMENT, turned, of_acknowledgement, 14)
 }
 
 #[test]

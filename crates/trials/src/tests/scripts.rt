@@ -6,13 +6,7 @@ use std::test::Fail;
 /// Plays a script and holds its listing to what the rules give.
 fn expect(rt: &impl Abort, heap: Global, script: &[u8], listing: &[u8]) -> Result<(), Fail> {
     let played = play(heap, script)?;
-    assert!(rt; played.as_slice() == listing);
-    Ok(())
-}
-
-fn expect_text(rt: &impl Abort, heap: Global, script: &str, listing: &str) -> Result<(), Fail> {
-    let played = play(heap, script.as_bytes())?;
-    assert!(rt; played.as_slice() == listing.as_bytes(), "{script}");
+    assert!(rt; played.as_slice() == listing, "{}", script.escape_ascii());
     Ok(())
 }
 
@@ -26,7 +20,7 @@ fn good_kits(rt: HostRuntime) -> Result<(), Fail> {
         ("K1600100000000 \n", "A16001000000000\n"),
     ];
     for (script, listing) in cases {
-        expect_text(&rt, rt.alloc(), script, listing)?;
+        expect(&rt, rt.alloc(), script.as_bytes(), listing.as_bytes())?;
     }
     Ok(())
 }
@@ -45,7 +39,7 @@ fn refused_kits(rt: HostRuntime) -> Result<(), Fail> {
         ("K9999900000001 \nP0000000000001 \n", "X00004000000000\n"),
     ];
     for (script, listing) in cases {
-        expect_text(&rt, rt.alloc(), script, listing)?;
+        expect(&rt, rt.alloc(), script.as_bytes(), listing.as_bytes())?;
     }
     Ok(())
 }
@@ -74,7 +68,7 @@ fn kits_of_broken_form(rt: HostRuntime) -> Result<(), Fail> {
         "KKKKKKKKKKKKKKKKP0000000000001 \n",
     ];
     for script in scripts {
-        expect_text(&rt, rt.alloc(), script, "X00017000000000\n")?;
+        expect(&rt, rt.alloc(), script.as_bytes(), b"X00017000000000\n")?;
     }
     Ok(())
 }
@@ -117,7 +111,7 @@ fn before_a_kit(rt: HostRuntime) -> Result<(), Fail> {
         ),
     ];
     for (script, listing) in cases {
-        expect_text(&rt, rt.alloc(), script, listing)?;
+        expect(&rt, rt.alloc(), script.as_bytes(), listing.as_bytes())?;
     }
     Ok(())
 }
@@ -143,13 +137,13 @@ fn places(rt: HostRuntime) -> Result<(), Fail> {
     for (record, answer) in cases {
         let script = format!(in rt.alloc(); "K0200100000000 \n{record}P0000100000007 \n")?;
         let listing = format!(in rt.alloc(); "A02001000000000\n{answer}A00001000000070\n")?;
-        expect_text(&rt, rt.alloc(), script.as_str(), listing.as_str())?;
+        expect(&rt, rt.alloc(), script.as_bytes(), listing.as_bytes())?;
     }
-    expect_text(
+    expect(
         &rt,
         rt.alloc(),
-        "K0101600000001 \nP0025500000001 \nP0025600000001 \n",
-        "A01016000000010\nA00255000000010\nX00002000000000\n",
+        b"K0101600000001 \nP0025500000001 \nP0025600000001 \n",
+        b"A01016000000010\nA00255000000010\nX00002000000000\n",
     )
 }
 
@@ -171,7 +165,7 @@ fn behind_a_kit(rt: HostRuntime) -> Result<(), Fail> {
     for (record, answer) in cases {
         let script = format!(in rt.alloc(); "K0200100000000 \n{record}P0000100000007 \n")?;
         let listing = format!(in rt.alloc(); "A02001000000000\n{answer}A00001000000070\n")?;
-        expect_text(&rt, rt.alloc(), script.as_str(), listing.as_str())?;
+        expect(&rt, rt.alloc(), script.as_bytes(), listing.as_bytes())?;
     }
     Ok(())
 }
@@ -195,71 +189,42 @@ fn second_kits(rt: HostRuntime) -> Result<(), Fail> {
         ("K0200100000000 \nK", "A02001000000000\nX00017000000000\n"),
     ];
     for (script, listing) in cases {
-        expect_text(&rt, rt.alloc(), script, listing)?;
+        expect(&rt, rt.alloc(), script.as_bytes(), listing.as_bytes())?;
     }
     Ok(())
 }
 
 #[test]
 fn bytes_over_127(rt: HostRuntime) -> Result<(), Fail> {
-    expect(
-        &rt,
-        rt.alloc(),
+    let scripts = [
         b"\xcb0200100000000 \n",
-        b"X00017000000000\n",
-    )?;
-    expect(
-        &rt,
-        rt.alloc(),
         b"K\xb0200100000000 \n",
-        b"X00017000000000\n",
-    )?;
-    expect(
-        &rt,
-        rt.alloc(),
         b"K0200\xb100000000 \n",
-        b"X00017000000000\n",
-    )?;
-    expect(
-        &rt,
-        rt.alloc(),
         b"K020010000000\xe1 \n",
-        b"X00017000000000\n",
-    )?;
-    expect(
-        &rt,
-        rt.alloc(),
         b"K0200100000000\xa0\n",
-        b"X00017000000000\n",
-    )?;
-    expect(
-        &rt,
-        rt.alloc(),
         b"\xff\xff\xff\xff\xff\xff\xff\xff\xff\xff\xff\xff\xff\xff\xff\xff",
-        b"X00017000000000\n",
-    )?;
-    expect(
-        &rt,
-        rt.alloc(),
         b"\0\0\0\0\0\0\0\0\0\0\0\0\0\0\0\0",
-        b"X00017000000000\n",
-    )
+    ];
+    for script in scripts {
+        expect(&rt, rt.alloc(), script, b"X00017000000000\n")?;
+    }
+    Ok(())
 }
 
 #[test]
 fn cut_short(rt: HostRuntime) -> Result<(), Fail> {
     expect(&rt, rt.alloc(), b"", b"")?;
     let kit = b"K0200100000000 \n";
-    for len in 1..16usize {
-        expect(&rt, rt.alloc(), &kit[0..len], b"X00017000000000\n")?;
+    for len in 1..kit.len() {
+        expect(&rt, rt.alloc(), &kit[..len], b"X00017000000000\n")?;
     }
     let place = b"K0200100000000 \nP000030000002a \n";
-    expect(&rt, rt.alloc(), &place[0..16], b"A02001000000000\n")?;
-    for len in 17..32usize {
+    expect(&rt, rt.alloc(), &place[..16], b"A02001000000000\n")?;
+    for len in 17..place.len() {
         expect(
             &rt,
             rt.alloc(),
-            &place[0..len],
+            &place[..len],
             b"A02001000000000\nX00017000000000\n",
         )?;
     }

@@ -2,6 +2,7 @@ ghost use Rattle.std.specs.Prelude.{◌≡◌, ◌+◌, ◌*◌, ◌^◌, ◌<�
 ghost use Rattle.wire.specs.BoardBits.{bit, set_bits, set_of_bits};
 
 use super::BoardSet;
+use std::array;
 
 /// The number with one bit more, below the others.
 fn with_lowest(bits: u16, lowest: bool) -> u16
@@ -26,8 +27,8 @@ impl BoardSet {
         ensures sixteen { length self.now.members ≡ 16 }
     {
         let mut bits = 0u16;
-        for i in (0..16usize).rev() {
-            bits = with_lowest(bits, self.members[i]);
+        for member in self.members.iter().rev() {
+            bits = with_lowest(bits, *member);
         }
         bits
     }
@@ -36,10 +37,8 @@ impl BoardSet {
     pub fn from_bits(bits: u16) -> BoardSet
         ensures { result ≡ set_of_bits bits }
     {
-        let mut members = [false; 16];
-        for i in 0..16usize {
-            members[i] = has_bit(bits, i);
+        BoardSet {
+            members: array::from_fn(|i| has_bit(bits, i)),
         }
-        BoardSet { members }
     }
 }

@@ -1,9 +1,16 @@
-use Rattle.std.proofs.Common.{◌≡◌, ◌+◌, ◌-◌, ◌*◌, ◌≤◌, ◌++◌, vec_items, vec_len, vec_capacity}
+use Rattle.std.proofs.Common.{◌≡◌, ◌+◌, ◌*◌, ◌≤◌, ◌++◌, vec_items, vec_len, vec_capacity}
+use Rattle.std.specs.Slice.Iter.{chunks_rest, chunks_size}
+use Rattle.script.specs.MadeKits.{bench_with}
 use Rattle.script.specs.Plays.{no_kit, answers}
-use Rattle.script.specs.Records.{records_from, record_count}
+use Rattle.script.specs.Records.{record_count, records}
 use Rattle.script.proofs.play.play_records.Given as goal
 
-abbrev pub invariant-loop-i : goal.invariant-loop-i
-invariant-loop-i l =
-    (vec_items l.listing ++ answers no_kit (records_from l.script l.i) ≡ vec_items l.initial.listing ++ answers no_kit (records_from l.script 0))
-    × (vec_len l.listing + 16 * (record_count l.script - l.i) ≤ vec_capacity l.listing)
+-- with the answers to the records that are left the listing is whole, and there is room for them
+abbrev pub invariant-loop-text : goal.invariant-loop-text
+invariant-loop-text l = record {
+  can_next : goal.iterator-loop-text.can_next l.text-iterator;
+  is_finite : goal.iterator-loop-text.is_finite l.text-iterator;
+  size : chunks_size l.text-iterator ≡ 16;
+  whole : vec_items l.listing ++ answers (bench_with l.bench) (records (chunks_rest l.text-iterator)) ≡ vec_items l.initial.listing ++ answers no_kit (records l.script);
+  room : vec_len l.listing + 16 * record_count (chunks_rest l.text-iterator) ≤ vec_capacity l.listing;
+}

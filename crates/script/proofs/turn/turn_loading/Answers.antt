@@ -1,4 +1,3 @@
-use Rattle.std.proofs.Common.{refl}
 use Rattle.std.proofs.lemmas.Result.{err_from_is_err_and}
 use Rattle.kit.specs.Kits.{kit_of}
 use Rattle.script.specs.Plays.{loading}
@@ -6,11 +5,7 @@ use Rattle.script.specs.Records.{form}
 use Rattle.script.proofs.Turns.{refused_form}
 use Rattle.script.proofs.turn.turn_loading.Goals as goal
 
-pub returns-in_err-address : goal.returns-in_err-address
-returns-in_err-address g c =
+pub returns-in_err-address-clause-refused : goal.returns-in_err-address-clause-refused
+returns-in_err-address-clause-refused g c =
     let p = err_from_is_err_and c.from_residual.result c.from_residual.ensures.1 in
-    rw (p.1, p.2) (record {
-      refused = λ link. refused_form (loading link (kit_of c.args.kit.now.cluster)) (form c.args.text.now) _ c.in_err-address.ensures.refused;
-      done = λ _. tt;
-      kept = refl {a = c.args.kit.now};
-    })
+    rw (p.1, p.2) (λ link. refused_form (loading link (kit_of c.args.kit.now.cluster)) (form c.args.text.now) _ c.in_err-address.ensures.refused)

@@ -4,11 +4,7 @@ use Rattle.script.specs.Records.{form}
 use Rattle.script.proofs.Turns.{refused_form}
 use Rattle.script.proofs.turn.turn_without_kit.Goals as goal
 
-pub returns-in_err-boards : goal.returns-in_err-boards
-returns-in_err-boards c =
+pub returns-in_err-plan-clause-refused : goal.returns-in_err-plan-clause-refused
+returns-in_err-plan-clause-refused c =
     let p = err_from_is_err_and c.from_residual.result c.from_residual.ensures.1 in
-    rw (p.1, p.2) (record {
-      refused = refused_form no_kit (form c.args.text.now) _ c.in_err-boards.ensures.refused;
-      done = tt;
-      link = tt;
-    })
+    rw (p.1, p.2) (refused_form no_kit (form c.args.text.now) _ c.in_err-plan.ensures.refused)

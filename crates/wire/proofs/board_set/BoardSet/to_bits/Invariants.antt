@@ -1,6 +1,5 @@
-use Rattle.std.proofs.Common.{◌≡◌, drop}
-use Rattle.wire.specs.BoardBits.{bits}
+use Rattle.wire.proofs.BoardBits.{Counted}
 use Rattle.wire.proofs.board_set.BoardSet.to_bits.Given as goal
 
-abbrev pub invariant-loop-i : goal.invariant-loop-i
-invariant-loop-i l = l.bits ≡ bits (drop l.i l.self.members)
+abbrev pub invariant-loop-member : goal.invariant-loop-member
+invariant-loop-member l = Counted l.self.members l.member-iterator.iter.rest.now l.bits
