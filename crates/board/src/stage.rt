@@ -1,6 +1,6 @@
 use wire::board_set::BoardSet;
 
-/// A board's open access, and how far it has come.
+/// A board's open access, and how far it has come. An address and its word are two fields, as a key and its value are.
 #[derive(Clone, Copy)]
 pub enum Stage {
     /// No access is open.

@@ -5,7 +5,7 @@ use crate::request::Request;
 /// The requests that wait at a board, in order of arrival: at most one of each other board.
 #[derive(Clone, Copy)]
 pub struct Waiting {
-    // An `ArrayVec` is not `Copy`, which a board's state is.
+    // No heap, so no `Vec`; and `ArrayVec` is not `Copy`, which a board's state is.
     requests: [Request; 15],
     len: usize,
     ghost within: { (len ≤ 15) × (length requests ≡ 15) },

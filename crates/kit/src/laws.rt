@@ -4,6 +4,7 @@ ghost use Rattle.kit.specs.WorkedCases.{WorkedCases};
 use wire::link::Link;
 
 /// A kit begins with the words that were placed, else zeros.
+#[tactic(auto, using(crate::proofs::Memories::placed_words))]
 pub fn placed_words()
     ensures { PlacedWords }
 {}

@@ -36,6 +36,7 @@ impl<L: Link + Drop> Loading<L> {
     }
 
     /// Writes a word at board 0, which owns every page until the kit starts.
+    // An address and its word are a key and its value, as in a map's `insert`: a struct of them would be taken apart at each call.
     pub fn place(&mut self, address: u32, word: u32) -> Result<(), Fault>
         ensures refused { refusal result ≡ first_no (place_questions (kit_of self.old.cluster).pages address) }
         ensures placed { MatchResult result

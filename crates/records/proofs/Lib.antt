@@ -1,4 +1,3 @@
-pub mod Forms
 pub mod Zeros
 pub mod Bytewise
 pub mod WordBytes

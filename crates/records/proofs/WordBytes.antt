@@ -4,7 +4,7 @@ use Rattle.std.specs.List.{range_with_len, flat_map, AllByRecursion}
 use Rattle.std.proofs.lemmas.List.FromFn.{fill_by_all}
 use Rattle.std.proofs.ByRecursion.{All-get_or}
 use Rattle.std.proofs.Math.Seq.{take-add}
-use Rattle.std.proofs.lemmas.List.{length-append, take_all, take_more, drop-drop, flat_map_more}
+use Rattle.std.proofs.lemmas.List.{length-append, drop-drop}
 use Rattle.records.specs.Laws.{Bytes}
 use Rattle.records.specs.Layouts.{words_in, word_place}
 use Rattle.records.specs.Numbers.{low_first, number_at}
@@ -44,18 +44,3 @@ bytes_of_words bs a (suc n) small h =
     ∙ ap (λ (ys : List ℕ). take 4 xs ++ take (4 * n) ys) (sym (drop-drop 4 (word_place a) bs))
     ∙ sym (take-add 4 (4 * n) xs)
     ∙ ap (λ (k : ℕ). take k xs) four
-
--- one word more is written behind a front
-pub words_more : (out after ws front bytes : List ℕ) (i place : ℕ) → i < length ws → place ≡ word_place i → bytes ≡ low_first 4 (get_or ws i 0) → take (word_place i) out ≡ front ++ word_bytes (take i ws) → take (place + length bytes) after ≡ take place out ++ bytes → take (word_place (i + 1)) after ≡ front ++ word_bytes (take (i + 1) ws)
-words_more out after ws front bytes i place h at are before put =
-    let next : word_place (i + 1) ≡ place + length bytes = omega (arith, ap length are) in
-    ap (λ (k : ℕ). take k after) next
-    ∙ put
-    ∙ ap (λ (k : ℕ). take k out ++ bytes) at
-    ∙ ap (λ (xs : List ℕ). xs ++ bytes) before
-    ∙ ap (λ (xs : List ℕ). (front ++ word_bytes (take i ws)) ++ xs) are
-    ∙ flat_map_more (low_first 4) front (take i ws) (get_or ws i 0)
-    ∙ ap (λ (xs : List ℕ). front ++ word_bytes xs) (sym (take_more ws i 0 h))
-
-pub words_all : (out ws front : List ℕ) (i : ℕ) → i ≡ 16 → length ws ≡ 16 → length out ≡ 80 → take (word_place i) out ≡ front ++ word_bytes (take i ws) → out ≡ front ++ word_bytes ws
-words_all out ws front i e l o before = sym (take_all (word_place i) out (omega arith)) ∙ before ∙ ap (λ (xs : List ℕ). front ++ word_bytes xs) (take_all i ws (omega arith))

@@ -16,6 +16,7 @@ pub fn forms_agree()
 {}
 
 /// A record worked out by hand, and one refused by each question.
+#[tactic(auto, using(crate::proofs::WorkedRecords::worked_records))]
 pub fn worked_records()
     ensures { WorkedRecords }
 {}

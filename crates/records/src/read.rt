@@ -1,7 +1,7 @@
-ghost use Rattle.std.specs.Prelude.{◌≡◌, ◌+◌, ◌≤◌, take, drop, MatchResult};
+ghost use Rattle.std.specs.Prelude.{◌≡◌, ◌+◌, ◌<◌, ◌≤◌, take, drop, MatchResult};
 ghost use Rattle.wire.specs.Questions.{refusal, first_no};
 ghost use Rattle.records.specs.Laws.{Read, Written, NoRecord};
-ghost use Rattle.records.specs.Layouts.{record_length, fields_in, words_in, unused_zero, record_questions};
+ghost use Rattle.records.specs.Layouts.{record_length, fields_in, words_in, word_place, unused_zero, record_questions};
 ghost use Rattle.records.specs.Numbers.{number_at};
 
 use crate::form::ask_form;
@@ -16,23 +16,23 @@ fn bytes_at<const N: usize>(bytes: &[u8; RECORD_LENGTH], place: usize) -> [u8; N
     requires { place + N ≤ record_length }
     ensures { result ≡ take N (drop place bytes.now) }
 {
-    from_fn(|i| bytes[place + i])
+    *bytes[place..place + N].as_array().unwrap()
 }
 
-/// The word from `place` on.
+/// Word `i`.
 #[tactic(auto, using(crate::proofs::Bytewise::word))]
-fn word_at(bytes: &[u8; RECORD_LENGTH], place: usize) -> u32
-    requires { place + 4 ≤ record_length }
-    ensures { result ≡ number_at bytes.now place 4 }
+fn word_at(bytes: &[u8; RECORD_LENGTH], i: usize) -> u32
+    requires { i < 16 }
+    ensures { result ≡ number_at bytes.now (word_place i) 4 }
 {
-    u32::from_le_bytes(bytes_at(bytes, place))
+    u32::from_le_bytes(bytes_at(bytes, word_place(i)))
 }
 
 /// The sixteen words.
 fn words_in(bytes: &[u8; RECORD_LENGTH]) -> [u32; 16]
     ensures { result ≡ words_in bytes.now }
 {
-    from_fn(|i| word_at(bytes, word_place(i)))
+    from_fn(|i| word_at(bytes, i))
 }
 
 /// The message of a kind whose fields the record holds.

@@ -17,7 +17,6 @@ use Rattle.script.specs.declared.answer.Answer.TheVariants.{Made, Placed}
 use Rattle.script.specs.declared.call.Call.{Call}
 use Rattle.script.specs.declared.call.Call.TheVariants.{Kit, Place, Load, Store, Deliver}
 use Rattle.script.specs.declared.call.KitPlan.{KitPlan}
-use Rattle.script.specs.declared.line.Letter.TheVariants.{A}
 use Rattle.script.specs.declared.line.Line.{Line}
 use Rattle.script.specs.declared.numbers.Numbers.{Numbers}
 use Rattle.script.proofs.Undoing.{written_back}
@@ -108,7 +107,7 @@ as_digits base cs n width b h l e = ap (λ (w : ℕ). digits base w n) (sym l) �
 
 -- a line of A with some numbers
 abbrev answered : Numbers → Line
-answered n = record { letter = A; numbers = n; hops = 0 }
+answered n = record { letter = letter_a; numbers = n; hops = 0 }
 
 abbrev echo_of : List ℕ → List ℕ
 echo_of r = letter_a ∷ between 1 14 r ++ 48 ∷ 10 ∷ []

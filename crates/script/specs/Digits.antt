@@ -5,6 +5,7 @@ use Rattle.script.specs.Steps.{◌>>=◌}
 use Rattle.script.specs.declared.digits.Base.{Base}
 use Rattle.script.specs.declared.digits.Base.TheVariants.{Ten, Sixteen}
 
+-- the number of each base
 abbrev pub base_number : Base → ℕ
 base_number Ten = 10
 base_number Sixteen = 16

@@ -1,5 +1,6 @@
 -- The kit that a record made.
-use Rattle.std.specs.Prelude.{ℕ, List, Some, None, Option}
+use Rattle.std.specs.Prelude.{ℕ, List, [], Some, None, Option}
+use Rattle.wire.specs.Links.{largest_limit}
 use Rattle.wire.specs.Rows.{row}
 use Rattle.wire.specs.declared.message.Message.{Message}
 use Rattle.kit.specs.Kits.{kit_of}
@@ -26,3 +27,12 @@ limit_of (OverPool k) = k.link.limit
 abbrev pub messages_on : MadeKit → List Message
 messages_on (OverQueue k) = row k.link
 messages_on (OverPool k) = row k.link
+
+-- the same of a bench; where no kit is made, what a kit is made with
+abbrev pub limit_with : Option MadeKit → ℕ
+limit_with None = largest_limit
+limit_with (Some k) = limit_of k
+
+abbrev pub messages_with : Option MadeKit → List Message
+messages_with None = []
+messages_with (Some k) = messages_on k

@@ -3,7 +3,7 @@ ghost use Rattle.wire.specs.Faults.{number};
 ghost use Rattle.script.specs.Lines.{line_of, refused_line};
 
 use crate::call::KitPlan;
-use crate::line::{Letter, Line};
+use crate::line::Line;
 use crate::numbers::Numbers;
 use wire::fault::Fault;
 
@@ -12,7 +12,7 @@ use wire::fault::Fault;
 pub enum Answer {
     /// A kit was made.
     Made(KitPlan),
-    /// A word was placed. Two fields with names need no struct of their own.
+    /// A word was placed. Its address and it are two fields, as a key and its value are.
     Placed { address: u32, word: u32 },
 }
 
@@ -34,7 +34,7 @@ impl From<Answer> for Line {
             },
         };
         Line {
-            letter: Letter::A,
+            letter: b'A',
             numbers,
             hops: 0,
         }
@@ -52,7 +52,7 @@ impl From<Fault> for Line {
             eight: 0,
         };
         Line {
-            letter: Letter::X,
+            letter: b'X',
             numbers,
             hops: 0,
         }

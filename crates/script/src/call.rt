@@ -42,7 +42,7 @@ pub struct KitPlan {
     pub link: LinkKind,
 }
 
-/// What a record of a script asks for.
+/// What a record of a script asks for. An address and its word are two fields, as a key and its value are.
 #[derive(Clone, Copy)]
 pub enum Call {
     Kit(KitPlan),

@@ -11,16 +11,15 @@ use wire::fault::Fault;
 /// How many characters a record has.
 pub(crate) const RECORD_LENGTH: usize = 16;
 
-/// Is a record whole, and are its last two characters a space and a newline?
-fn is_framed(text: &[u8]) -> bool
+/// Are the last two characters a space and a newline?
+fn is_framed(text: &[u8; RECORD_LENGTH]) -> bool
     ensures { result ≡ framed text.now }
 {
-    text.len() == RECORD_LENGTH && text[14] == b' ' && text[15] == b'\n'
+    text[14] == b' ' && text[15] == b'\n'
 }
 
 /// The numbers that the digits of a record write.
-fn read_numbers(text: &[u8]) -> Option<Numbers>
-    requires { length text.now ≡ 16 }
+fn read_numbers(text: &[u8; RECORD_LENGTH]) -> Option<Numbers>
     ensures value { result ≡ numbers_in text.now }
     ensures two { IfSome result (λ n. n.two < 100) }
     ensures three { IfSome result (λ n. n.three < 1000) }
@@ -65,10 +64,12 @@ fn name_call(letter: char, numbers: Numbers) -> Result<Call, Fault>
 }
 
 /// The call that a record asks for. One of another length, as a last record cut short, breaks the form.
+// A text is read, as `read_record` reads the bytes of a message: `Call::try_from` would say no more and name it less.
 pub fn read_call(text: &[u8]) -> Result<Call, Fault>
     ensures refused { refusal result ≡ first_no ((17, is_some (form text.now)) ∷ []) }
     ensures call { IfOk result (λ c. form text.now ≡ Some c) }
 {
+    let text: &[u8; RECORD_LENGTH] = text.as_array().ok_or(Fault::BadForm)?;
     if !is_framed(text) {
         return Err(Fault::BadForm);
     }

@@ -1,9 +1,10 @@
 ghost use Rattle.std.specs.Prelude.{◌≡◌, [], IfOk, OnErr, Some, MatchResult, option_and_then};
 ghost use Rattle.wire.specs.Links.{largest_limit};
 ghost use Rattle.wire.specs.Questions.{refusal, first_no};
+ghost use Rattle.wire.specs.Rows.{row};
 ghost use Rattle.kit.specs.KitQuestions.{making_questions};
 ghost use Rattle.kit.specs.Kits.{kit_of, start_kit};
-ghost use Rattle.script.specs.MadeKits.{bench_of, bench_with, limit_of, messages_on};
+ghost use Rattle.script.specs.MadeKits.{bench_of, bench_with, limit_of, limit_with, messages_on, messages_with};
 ghost use Rattle.script.specs.Plays.{no_kit, loading, record_questions, carried_out};
 ghost use Rattle.script.specs.Records.{form};
 ghost use Rattle.script.specs.declared.call.LinkKind.{LinkKind as Kind};
@@ -14,8 +15,10 @@ use crate::record::read_call;
 use kit::loading::Loading;
 use wire::fault::Fault;
 use wire::link::{LARGEST_LIMIT, Link};
+use wire::order::Order;
 use wire::pool::Pool;
 use wire::queue::Queue;
+use wire::row::Row;
 
 /// A kit that a record made, over the link that the record named.
 #[derive(Drop)]
@@ -31,25 +34,22 @@ pub struct FirstTurn {
     pub kit: MadeKit,
 }
 
-/// Makes the kit of a plan over an empty link of the largest limit.
+/// The kit of a plan over an empty row of the largest limit, in whatever order.
+fn over_row<O: Order>(plan: KitPlan) -> Result<Loading<Row<O>>, Fault>
+    ensures refused { refusal result ≡ first_no (making_questions plan.boards plan.pages largest_limit 0) }
+    ensures made { IfOk result (λ k. (kit_of k.cluster ≡ start_kit plan.boards plan.pages) × (k.link.limit ≡ largest_limit) × (row k.link ≡ [])) }
+{
+    Loading::new(Row::new(LARGEST_LIMIT)?, plan.boards, plan.pages)
+}
+
+/// Makes the kit of a plan, over the link that it names.
 fn make_kit(plan: KitPlan) -> Result<MadeKit, Fault>
     ensures refused { refusal result ≡ first_no (making_questions plan.boards plan.pages largest_limit 0) }
     ensures made { IfOk result (λ k. (bench_of k ≡ loading plan.link (start_kit plan.boards plan.pages)) × (limit_of k ≡ largest_limit) × (messages_on k ≡ [])) }
 {
-    let KitPlan {
-        boards,
-        pages,
-        link,
-    } = plan;
-    match link {
-        LinkKind::Queue => {
-            let link = Queue::new(LARGEST_LIMIT)?;
-            Loading::new(link, boards, pages).map(MadeKit::OverQueue)
-        }
-        LinkKind::Pool => {
-            let link = Pool::new(LARGEST_LIMIT)?;
-            Loading::new(link, boards, pages).map(MadeKit::OverPool)
-        }
+    match plan.link {
+        LinkKind::Queue => over_row(plan).map(MadeKit::OverQueue),
+        LinkKind::Pool => over_row(plan).map(MadeKit::OverPool),
     }
 }
 
@@ -86,6 +86,7 @@ pub fn turn_loading<L: Link + Drop>(kit: &mut Loading<L>, text: &[u8]) -> Result
 pub(crate) fn turn(bench: &mut Option<MadeKit>, text: &[u8]) -> Result<Answer, Fault>
     ensures refused { refusal result ≡ first_no (record_questions (bench_with bench.old) (form text.now)) }
     ensures done { IfOk result (λ a. option_and_then (carried_out (bench_with bench.old)) (form text.now) ≡ Some (record { answer = a; bench = bench_with bench.new })) }
+    ensures link { (limit_with bench.new ≡ limit_with bench.old) × (messages_with bench.new ≡ messages_with bench.old) }
     ensures kept { OnErr result (bench.new ≡ bench.old) }
 {
     match bench {
@@ -94,6 +95,7 @@ pub(crate) fn turn(bench: &mut Option<MadeKit>, text: &[u8]) -> Result<Answer, F
             *bench = Some(kit);
             Ok(answer)
         }
+        // One function over whatever link; the enum has an arm for each.
         Some(MadeKit::OverQueue(kit)) => turn_loading(kit, text),
         Some(MadeKit::OverPool(kit)) => turn_loading(kit, text),
     }

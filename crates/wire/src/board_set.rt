@@ -17,7 +17,7 @@ impl BoardSet {
     pub fn contains(&self, board: u8) -> bool
         ensures { result ≡ has self.now board }
     {
-        self.members.get(board as usize) == Some(&true)
+        self.members.get(usize::from(board)) == Some(&true)
     }
 
     #[tactic(auto, using(crate::proofs::BoardSets::none_of_any))]
@@ -44,8 +44,9 @@ impl BoardSet {
     fn mark(&mut self, board: u8, member: bool)
         ensures { self.new ≡ with_mark self.old board member }
     {
+        // By `get_mut` the proof didn't close: it does not learn what the array is after the write.
         if board < 16 {
-            self.members[board as usize] = member;
+            self.members[usize::from(board)] = member;
         }
     }
 }

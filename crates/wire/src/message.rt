@@ -70,7 +70,7 @@ impl Message {
     };
 }
 
-// What stands at the places of a row that no message waits at.
+// What stands at the places of a row that no message waits at. By hand, since a kind has no default of its own.
 impl Default for Message {
     ghost is_default = { λ message. message ≡ blank };
 

@@ -7,6 +7,7 @@ pub trait Order {
 
     /// The place of the message taken where `waiting` of them wait.
     fn place(pick: u16, waiting: u16) -> u16
+        requires { 0 < waiting }
         ensures { result ≡ place pick waiting };
 
     // Where any wait, it is the place of one of them.

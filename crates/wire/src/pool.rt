@@ -16,6 +16,6 @@ impl Order for ByPick {
     ghost inside = { λ pick waiting some. mod-lt pick {m = waiting} some };
 
     fn place(pick: u16, waiting: u16) -> u16 {
-        pick.checked_rem(waiting).unwrap_or(pick)
+        pick % waiting
     }
 }

@@ -41,14 +41,21 @@ impl<O> Row<O> {
         })
     }
 
+    /// How many messages are in the row.
+    fn len(&self) -> u16
+        ensures { result ≡ length (row self.now) }
+    {
+        self.messages.len() as u16
+    }
+
     /// Takes out the message at `place`.
-    fn take_at(&mut self, place: u16) -> Message
+    fn take_at(&mut self, place: usize) -> Message
         requires { place < length (row self.old) }
         ensures limit { self.new.limit ≡ self.old.limit }
         ensures chosen { row self.old ≡ insert (row self.new) place result }
         ensures left { Adds result (held self.new) (held self.old) }
     {
-        let message = take_out(self.messages.as_mut_slice(), place as usize);
+        let message = take_out(self.messages.as_mut_slice(), place);
         self.messages.pop();
         message
     }
@@ -74,7 +81,7 @@ impl<O: Order> Link for Row<O> {
 
     #[tactic(auto, using(crate::proofs::Bags::size_bag, crate::proofs::Bags::adds_push))]
     fn post(&mut self, message: Message) -> Result<(), Fault> {
-        if self.count() >= self.limit {
+        if self.len() >= self.limit {
             return Err(Fault::LinkFull);
         }
         self.messages.push(message);
@@ -86,13 +93,13 @@ impl<O: Order> Link for Row<O> {
         if self.messages.is_empty() {
             return None;
         }
-        let place = O::place(pick, self.count());
-        Some(self.take_at(place))
+        let place = O::place(pick, self.len());
+        Some(self.take_at(usize::from(place)))
     }
 
     #[tactic(auto, using(crate::proofs::Bags::size_bag))]
     fn count(&self) -> u16 {
-        self.messages.len() as u16
+        self.len()
     }
 
     fn limit(&self) -> u16 {

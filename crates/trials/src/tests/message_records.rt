@@ -203,8 +203,8 @@ fn first_question_answers(rt: HostRuntime) {
         (5, 14, 14),
     ];
     for (place, byte, number) in mends {
-        if place < 80 {
-            record[place] = byte;
+        if let Some(damaged) = record.get_mut(place) {
+            *damaged = byte;
         }
         assert_eq!(rt; refusal(read_record(&record)), number);
     }

@@ -10,6 +10,14 @@ fn expect(rt: &impl Abort, heap: Global, script: &[u8], listing: &[u8]) -> Resul
     Ok(())
 }
 
+/// The same of many scripts, each with its listing.
+fn expect_each(rt: &impl Abort, heap: Global, cases: &[(&str, &str)]) -> Result<(), Fail> {
+    for (script, listing) in cases {
+        expect(rt, heap, script.as_bytes(), listing.as_bytes())?;
+    }
+    Ok(())
+}
+
 #[test]
 fn good_kits(rt: HostRuntime) -> Result<(), Fail> {
     let cases = [
@@ -19,10 +27,7 @@ fn good_kits(rt: HostRuntime) -> Result<(), Fail> {
         ("K0901000000001 \n", "A09010000000010\n"),
         ("K1600100000000 \n", "A16001000000000\n"),
     ];
-    for (script, listing) in cases {
-        expect(&rt, rt.alloc(), script.as_bytes(), listing.as_bytes())?;
-    }
-    Ok(())
+    expect_each(&rt, rt.alloc(), &cases)
 }
 
 #[test]
@@ -38,10 +43,7 @@ fn refused_kits(rt: HostRuntime) -> Result<(), Fail> {
         ("K0000000000000 \nP0000000000001 \n", "X00004000000000\n"),
         ("K9999900000001 \nP0000000000001 \n", "X00004000000000\n"),
     ];
-    for (script, listing) in cases {
-        expect(&rt, rt.alloc(), script.as_bytes(), listing.as_bytes())?;
-    }
-    Ok(())
+    expect_each(&rt, rt.alloc(), &cases)
 }
 
 #[test]
@@ -110,8 +112,15 @@ fn before_a_kit(rt: HostRuntime) -> Result<(), Fail> {
             "X00017000000000\nA02001000000000\n",
         ),
     ];
-    for (script, listing) in cases {
-        expect(&rt, rt.alloc(), script.as_bytes(), listing.as_bytes())?;
+    expect_each(&rt, rt.alloc(), &cases)
+}
+
+/// The same of records between a kit and a place, each with its answer.
+fn expect_inside(rt: &impl Abort, heap: Global, cases: &[(&str, &str)]) -> Result<(), Fail> {
+    for (record, answer) in cases {
+        let script = format!(in heap; "K0200100000000 \n{record}P0000100000007 \n")?;
+        let listing = format!(in heap; "A02001000000000\n{answer}A00001000000070\n")?;
+        expect(rt, heap, script.as_bytes(), listing.as_bytes())?;
     }
     Ok(())
 }
@@ -134,11 +143,7 @@ fn places(rt: HostRuntime) -> Result<(), Fail> {
         ("p0000300000001 \n", "X00017000000000\n"),
         ("P0001600000001  ", "X00017000000000\n"),
     ];
-    for (record, answer) in cases {
-        let script = format!(in rt.alloc(); "K0200100000000 \n{record}P0000100000007 \n")?;
-        let listing = format!(in rt.alloc(); "A02001000000000\n{answer}A00001000000070\n")?;
-        expect(&rt, rt.alloc(), script.as_bytes(), listing.as_bytes())?;
-    }
+    expect_inside(&rt, rt.alloc(), &cases)?;
     expect(
         &rt,
         rt.alloc(),
@@ -162,12 +167,7 @@ fn behind_a_kit(rt: HostRuntime) -> Result<(), Fail> {
         ("D0000000000001 \n", "X00017000000000\n"),
         ("d0000000000000 \n", "X00017000000000\n"),
     ];
-    for (record, answer) in cases {
-        let script = format!(in rt.alloc(); "K0200100000000 \n{record}P0000100000007 \n")?;
-        let listing = format!(in rt.alloc(); "A02001000000000\n{answer}A00001000000070\n")?;
-        expect(&rt, rt.alloc(), script.as_bytes(), listing.as_bytes())?;
-    }
-    Ok(())
+    expect_inside(&rt, rt.alloc(), &cases)
 }
 
 #[test]
@@ -188,10 +188,7 @@ fn second_kits(rt: HostRuntime) -> Result<(), Fail> {
         ),
         ("K0200100000000 \nK", "A02001000000000\nX00017000000000\n"),
     ];
-    for (script, listing) in cases {
-        expect(&rt, rt.alloc(), script.as_bytes(), listing.as_bytes())?;
-    }
-    Ok(())
+    expect_each(&rt, rt.alloc(), &cases)
 }
 
 #[test]

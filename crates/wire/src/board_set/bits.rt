@@ -22,6 +22,7 @@ fn has_bit(bits: u16, i: usize) -> bool
 
 impl BoardSet {
     /// The set as a number: bit i for board i.
+    // Named after its bits, as the library's `to_bits` of floats: `u16::from(set)` would not say which number of a set it is.
     pub fn to_bits(&self) -> u16
         ensures bits { result ≡ set_bits self.now }
         ensures sixteen { length self.now.members ≡ 16 }
@@ -34,6 +35,7 @@ impl BoardSet {
     }
 
     /// The set that a number is of.
+    // Named after the bits too.
     pub fn from_bits(bits: u16) -> BoardSet
         ensures { result ≡ set_of_bits bits }
     {

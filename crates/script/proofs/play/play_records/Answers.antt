@@ -1,4 +1,4 @@
-use Rattle.std.proofs.Common.{◌≡◌, suc, ◌∷◌, ◌∙◌, arith, rules}
+use Rattle.std.proofs.Common.{◌≡◌, suc, ◌∷◌, ◌∙◌, arith}
 use Rattle.std.specs.Slice.Iter.{chunks_rest}
 use Rattle.wire.specs.Faults.{number}
 use Rattle.script.specs.MadeKits.{bench_with}
@@ -18,8 +18,6 @@ pub loop-text-preserved-in-Ok : goal.loop-text-preserved-in-Ok
 loop-text-preserved-in-Ok c =
     let more = first (goal.at.loop-text-preserved-in-Ok c).After-turn in
     record {
-      can_next = search rules;
-      is_finite = tt;
       size = c.in-Some.ensures.steps.0 ∙ c.loop-text.invariant.size;
       whole = goes_on (bench_with c.loop-text.bench) c.in-Some.text.now (records (chunks_rest c.next.new.self)) _ more.0 _ _ c.loop-text.invariant.whole (record { answer = c.in-Ok.answer; bench = bench_with c.turn.new.bench }) _ _ c.in-Ok.ensures.refused c.in-Ok.ensures.done c.into.ensures c.add_line.ensures.items;
       room = omega (arith, more.1, c.loop-text.invariant.room, c.add_line.ensures.len, c.add_line.ensures.capacity);
@@ -33,8 +31,6 @@ pub loop-text-preserved : goal.loop-text-preserved
 loop-text-preserved c =
     let more = first (goal.at.loop-text-preserved c).After-turn in
     record {
-      can_next = search rules;
-      is_finite = tt;
       size = c.in-Some.ensures.steps.0 ∙ c.loop-text.invariant.size;
       whole = rw c.in-Err.ensures.kept (goes_on_refused (bench_with c.loop-text.bench) c.in-Some.text.now (records (chunks_rest c.next.new.self)) _ more.0 _ _ c.loop-text.invariant.whole (number c.in-Err.fault) _ _ c.in-Err.ensures.refused c.into-in-Err.ensures c.add_line-in-Err.ensures.items c.if-starts_with.ensures.value);
       room = omega (arith, more.1, c.loop-text.invariant.room, c.add_line-in-Err.ensures.len, c.add_line-in-Err.ensures.capacity);

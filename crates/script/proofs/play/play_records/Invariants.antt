@@ -8,8 +8,6 @@ use Rattle.script.proofs.play.play_records.Given as goal
 -- with the answers to the records that are left the listing is whole, and there is room for them
 abbrev pub invariant-loop-text : goal.invariant-loop-text
 invariant-loop-text l = record {
-  can_next : goal.iterator-loop-text.can_next l.text-iterator;
-  is_finite : goal.iterator-loop-text.is_finite l.text-iterator;
   size : chunks_size l.text-iterator ≡ 16;
   whole : vec_items l.listing ++ answers (bench_with l.bench) (records (chunks_rest l.text-iterator)) ≡ vec_items l.initial.listing ++ answers no_kit (records l.script);
   room : vec_len l.listing + 16 * record_count (chunks_rest l.text-iterator) ≤ vec_capacity l.listing;
