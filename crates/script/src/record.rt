@@ -32,6 +32,7 @@ fn read_numbers(text: &[u8; RECORD_LENGTH]) -> Option<Numbers>
 }
 
 /// The call that a letter makes of its numbers. Those that it has no use for are zero.
+// The letter stands alone, as a `char` that is matched against `char`s: so the arms read as the rules of a script do.
 fn name_call(letter: char, numbers: Numbers) -> Result<Call, Fault>
     requires two { numbers.two < 100 }
     requires three { numbers.three < 1000 }

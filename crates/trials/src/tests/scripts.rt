@@ -3,7 +3,7 @@ use std::alloc::Global;
 use std::process::Abort;
 use std::test::Fail;
 
-/// Plays a script and holds its listing to what the rules give.
+/// Plays a script and compares its listing with what the rules give.
 fn expect(rt: &impl Abort, heap: Global, script: &[u8], listing: &[u8]) -> Result<(), Fail> {
     let played = play(heap, script)?;
     assert!(rt; played.as_slice() == listing, "{}", script.escape_ascii());
