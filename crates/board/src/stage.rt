@@ -1,6 +1,7 @@
 use wire::board_set::BoardSet;
 
-/// A board's open access, and how far it has come. An address and its word are two fields, as a key and its value are.
+/// A board's open access, and how far it has come.
+// An address and its word are a key and its value, and need no struct of their own.
 #[derive(Clone, Copy)]
 pub enum Stage {
     /// No access is open.

@@ -27,7 +27,8 @@ impl Cluster {
         }
     }
 
-    /// Writes a word at board 0: an address and a word, as a key and its value.
+    /// Writes a word at board 0.
+    // An address and its word are a key and its value, and need no struct of their own.
     pub(crate) fn place(&mut self, address: u32, word: u32) -> Result<(), Fault>
         ensures refused { refusal result ≡ first_no (place_questions (kit_of self.old).pages address) }
         ensures placed { MatchResult result

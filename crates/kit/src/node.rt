@@ -24,7 +24,8 @@ impl Node {
         }
     }
 
-    /// Puts a word into the page table: an address and a word, as a key and its value.
+    /// Puts a word into the page table.
+    // An address and its word are a key and its value, and need no struct of their own.
     pub(crate) fn put_word(&mut self, address: u32, word: u32)
         requires { page_of address < 16 }
         ensures state { self.new.state ≡ self.old.state }

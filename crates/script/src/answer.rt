@@ -12,7 +12,8 @@ use wire::fault::Fault;
 pub enum Answer {
     /// A kit was made.
     Made(KitPlan),
-    /// A word was placed. Its address and it are two fields, as a key and its value are.
+    /// A word was placed.
+    // An address and its word are a key and its value, and need no struct of their own.
     Placed { address: u32, word: u32 },
 }
 

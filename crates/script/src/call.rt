@@ -42,7 +42,8 @@ pub struct KitPlan {
     pub link: LinkKind,
 }
 
-/// What a record of a script asks for. An address and its word are two fields, as a key and its value are.
+/// What a record of a script asks for.
+// An address and its word are a key and its value, and need no struct of their own.
 #[derive(Clone, Copy)]
 pub enum Call {
     Kit(KitPlan),
