@@ -21,3 +21,6 @@ state_of b = record { number = b.number; stage = b.stage; waiting = queue b.wait
 -- a board as it starts: nothing is open, waiting or deferred
 abbrev pub start_state : ℕ → BoardState
 start_state number = record { number = number; stage = Idle; waiting = [] }
+
+abbrev pub at_stage : BoardState → Stage → BoardState
+at_stage s stage = record s { stage = stage }

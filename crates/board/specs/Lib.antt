@@ -1,2 +1,11 @@
+pub mod Addresses
+pub mod Stages
 pub mod Entries
 pub mod Boards
+pub mod Outboxes
+pub mod Posts
+pub mod Grants
+pub mod Serving
+pub mod Openings
+pub mod Steps
+pub mod Expected

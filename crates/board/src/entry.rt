@@ -12,7 +12,7 @@ pub enum Access {
 }
 
 /// A board's entry for one page. The hint is the board that probably owns the page: its own number where it does.
-#[derive(Clone, Copy)]
+#[derive(Clone, Copy, PartialEq, Eq, Debug)]
 pub struct PageEntry {
     pub access: Access,
     pub hint: u8,

@@ -1,7 +1,10 @@
 #![tactic(auto)]
 
+pub mod answer;
 pub mod board;
 pub mod entry;
+pub mod grant;
+pub mod outbox;
 pub mod request;
 pub mod stage;
 pub mod waiting;

@@ -1,6 +1,7 @@
-ghost use Rattle.std.specs.Prelude.{◌≡◌, ◌≤◌, [], length};
+ghost use Rattle.std.specs.Prelude.{◌≡◌, ◌<◌, ◌≤◌, [], ◌∷◌, ◌++◌, length, MatchOption};
 
 use crate::request::Request;
+use wire::gap::take_out;
 
 /// The requests that wait at a board, in order of arrival: at most one of each other board.
 #[derive(Clone, Copy)]
@@ -13,6 +14,7 @@ pub struct Waiting {
 
 impl Waiting {
     ghost use Rattle.board.specs.Boards.{queue};
+    ghost use Rattle.board.specs.Expected.{waits};
 
     /// No request waits.
     pub fn new() -> Waiting
@@ -22,5 +24,47 @@ impl Waiting {
             requests: [Request::BLANK; 15],
             len: 0,
         }
+    }
+
+    /// A request joins those that wait, behind the others.
+    pub(crate) fn join(&mut self, request: Request)
+        requires { length (queue self.old) < 15 }
+        ensures { queue self.new ≡ queue self.old ++ request ∷ [] }
+    {
+        self.requests[self.len] = request;
+        self.len += 1;
+    }
+
+    /// Takes out the oldest request.
+    pub(crate) fn take_first(&mut self) -> Option<Request>
+        ensures { MatchOption result
+            ((queue self.old ≡ []) × (self.new ≡ self.old))
+            (λ request. queue self.old ≡ request ∷ queue self.new) }
+    {
+        if self.len == 0 {
+            return None;
+        }
+        // The checker lends no part of a field beside a ghost field, so the few bytes are copied.
+        let mut requests = self.requests;
+        let request = take_out(&mut requests[..self.len], 0);
+        self.requests = requests;
+        self.len -= 1;
+        Some(request)
+    }
+
+    /// The requests that wait, the oldest first.
+    pub fn requests(&self) -> &[Request]
+        ensures { result.now ≡ queue self.now }
+    {
+        &self.requests[..self.len]
+    }
+
+    /// Does a request of this asker wait?
+    pub fn has_asker(&self, asker: u8) -> bool
+        ensures { result ≡ waits asker (queue self.now) }
+    {
+        self.requests()
+            .iter()
+            .any(|request| request.asker == asker)
     }
 }

@@ -5,7 +5,8 @@ use Rattle.std.proofs.lemmas.Bool.{cases_eq}
 use Rattle.std.proofs.lemmas.Bool.Decides.{nat_tests}
 use Rattle.board.specs.Entries.{start_entry}
 use Rattle.board.specs.declared.entry.PageEntry.{PageEntry}
-use Rattle.lone.specs.Tables.{start_table, entry_at, no_entry, word_at, with_word_at, page_of, place_of}
+use Rattle.board.specs.Addresses.{page_of, place_of}
+use Rattle.lone.specs.Tables.{start_table, entry_at, no_entry, word_at, with_word_at}
 use Rattle.kit.specs.Kits.{placed, table_of}
 use Rattle.kit.specs.Memory.{Placement, after_placing, InRange, PlacedWords}
 

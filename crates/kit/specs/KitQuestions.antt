@@ -1,10 +1,6 @@
 -- What is asked when a kit is made, and when a word is placed.
-use Rattle.std.specs.Prelude.{ℕ, ◌+◌, ◌*◌, Bool, List, [], ◌∷◌, ◌++◌, ◌==◌, nat_le, nat_lt}
-use Rattle.wire.specs.Questions.{inside}
-
--- are there 1 to 16 boards, and 1 to 16 pages?
-abbrev pub size_questions : ℕ → ℕ → List (ℕ × Bool)
-size_questions n p = (4, inside 1 16 n) ∷ (5, inside 1 16 p) ∷ []
+use Rattle.std.specs.Prelude.{ℕ, ◌+◌, ◌*◌, Bool, List, [], ◌∷◌, ◌++◌, ◌==◌, nat_le}
+use Rattle.lone.specs.Sizes.{size_questions, has_address}
 
 -- is the link's limit at least N × N + 16, and is it empty?
 abbrev pub link_questions : ℕ → ℕ → ℕ → List (ℕ × Bool)
@@ -15,4 +11,4 @@ making_questions n p limit count = size_questions n p ++ link_questions n limit 
 
 -- is the address below 16 P?
 abbrev pub place_questions : ℕ → ℕ → List (ℕ × Bool)
-place_questions p address = (2, nat_lt address (16 * p)) ∷ []
+place_questions p address = (2, has_address p address) ∷ []

@@ -4,7 +4,7 @@ ghost use Rattle.kit.specs.Kits.{kit_of, start_kit, placed};
 ghost use Rattle.kit.specs.KitQuestions.{place_questions};
 
 use crate::node::Node;
-use crate::size::Size;
+use lone::size::Size;
 use std::array::from_fn;
 use wire::fault::Fault;
 

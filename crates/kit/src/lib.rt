@@ -4,4 +4,3 @@ pub mod cluster;
 pub mod laws;
 pub mod loading;
 mod node;
-mod size;

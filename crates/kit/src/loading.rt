@@ -5,7 +5,7 @@ ghost use Rattle.kit.specs.Kits.{kit_of, start_kit, placed};
 ghost use Rattle.kit.specs.KitQuestions.{making_questions, place_questions};
 
 use crate::cluster::Cluster;
-use crate::size::Size;
+use lone::size::Size;
 use wire::fault::Fault;
 use wire::link::Link;
 

@@ -1,6 +1,7 @@
 ghost use Rattle.std.specs.Prelude.{◌≡◌, ◌<◌};
 ghost use Rattle.board.specs.Boards.{state_of, start_state};
-ghost use Rattle.lone.specs.Tables.{start_table, page_of, with_word_at};
+ghost use Rattle.board.specs.Addresses.{page_of};
+ghost use Rattle.lone.specs.Tables.{start_table, with_word_at};
 
 use board::board::Board;
 use lone::table::PageTable;

@@ -1,15 +1,9 @@
--- Page tables, and the addresses of words in them.
-use Rattle.std.specs.Prelude.{List, [], ℕ, ◌/◌, ◌%◌, get_or, set, replicate}
+-- Page tables.
+use Rattle.std.specs.Prelude.{List, [], ℕ, get_or, set, replicate}
+use Rattle.board.specs.Addresses.{page_of, place_of}
 use Rattle.board.specs.Entries.{start_entry, with_word}
 use Rattle.board.specs.declared.entry.PageEntry.{PageEntry}
 use Rattle.board.specs.declared.entry.Access.TheVariants as access
-
--- an address is 16 times the page number plus the place in the page
-abbrev pub page_of : ℕ → ℕ
-page_of address = address / 16
-
-abbrev pub place_of : ℕ → ℕ
-place_of address = address % 16
 
 abbrev pub start_table : ℕ → List PageEntry
 start_table number = replicate 16 (start_entry number)

@@ -4,7 +4,7 @@ ghost use Rattle.lone.specs.Tables.{start_table};
 use board::entry::PageEntry;
 
 /// The entries of one board, page by page.
-#[derive(Clone, Copy)]
+#[derive(Clone, Copy, PartialEq, Eq, Debug)]
 pub struct PageTable {
     pub entries: [PageEntry; 16],
 }

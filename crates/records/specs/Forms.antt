@@ -2,6 +2,7 @@
 use Rattle.std.specs.Prelude.{◌≡◌, ℕ, Bool, true, false, not, ◌&&◌, ◌⊎◌, List, [], ◌∷◌, Decides, ◌==◌, nat_le, nat_lt}
 use Rattle.wire.specs.BoardSets.{has, is_empty}
 use Rattle.wire.specs.Kinds.{kind_number}
+use Rattle.wire.specs.Messages.{most_hops}
 use Rattle.wire.specs.Questions.{inside}
 use Rattle.wire.specs.declared.message.Kind.{Kind}
 use Rattle.wire.specs.declared.message.Kind.TheVariants.{ReadRequest, WriteRequest, Copy, Grant, Invalidate, Acknowledgement}
@@ -13,10 +14,6 @@ board_limit = 16
 
 abbrev pub page_limit : ℕ
 page_limit = 16
-
--- the most hops that a message can have
-abbrev pub most_hops : ℕ
-most_hops = 14
 
 -- from, to and asker are numbers of boards, and no board sends to itself
 abbrev pub has_parties : Message → Bool

@@ -3,16 +3,13 @@ ghost use Rattle.wire.specs.Questions.{refusal, first_no};
 ghost use Rattle.records.specs.Forms.{has_parties, in_range, all_zero, carries_nothing, kind_form, message_questions};
 
 use wire::fault::Fault;
-use wire::message::{Kind, Message};
+use wire::message::{Kind, MOST_HOPS, Message};
 
 /// Boards that a message names have numbers below this.
 pub const BOARD_LIMIT: u8 = 16;
 
 /// Pages that a message names have numbers below this.
 pub const PAGE_LIMIT: u32 = 16;
-
-/// The most hops that a message can have.
-pub const MOST_HOPS: u8 = 14;
 
 /// Are from, to and asker boards, and from and to two?
 fn has_parties(message: &Message) -> bool

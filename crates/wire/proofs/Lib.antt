@@ -5,3 +5,4 @@ pub mod BoardBits
 pub mod Gaps
 pub mod Rows
 pub mod Bounds
+pub mod Sending

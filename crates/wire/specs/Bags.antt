@@ -28,6 +28,12 @@ abbrev pub bag : {X : Type 0} → List X → Bag X
 bag [] = empty
 bag (x ∷ xs) = x & bag xs
 
+-- the items of a list beside those of a bag
+infixr 40 ◌⊕◌
+abbrev pub ◌⊕◌ : {X : Type 0} → List X → Bag X → Bag X
+[] ⊕ b = b
+(x ∷ xs) ⊕ b = x & (xs ⊕ b)
+
 -- c is b with x added; every sum shows it, which is said again for the search
 abbrev pub Adds : {X : Type 0} → X → Bag X → Bag X → Type 0
 Adds {X} x b c = (c ≡ x & b) × ((f : X → ℕ) → total f c ≡ f x + total f b)

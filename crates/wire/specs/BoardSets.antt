@@ -1,5 +1,6 @@
 -- Sets of boards.
-use Rattle.std.specs.Prelude.{ℕ, Bool, true, false, not, ◌&&◌, List, [], ◌∷◌, replicate, slice_index_or, slice_set}
+use Rattle.std.specs.Prelude.{ℕ, Bool, true, false, not, ◌&&◌, ◌||◌, List, [], ◌∷◌, replicate, drop, filter, slice_index_or, slice_set}
+use Rattle.std.specs.List.{list_all, range_with_len}
 use Rattle.wire.specs.declared.board_set.BoardSet.{BoardSet}
 
 -- the board is a member
@@ -26,3 +27,15 @@ with_member s board = with_mark s board true
 
 abbrev pub without_member : BoardSet → ℕ → BoardSet
 without_member s board = with_mark s board false
+
+-- the members, in rising order
+abbrev pub members : BoardSet → List ℕ
+members s = filter (has s) (range_with_len 0 16)
+
+-- all members have numbers below this
+abbrev pub is_below : BoardSet → ℕ → Bool
+is_below s boards = none_of (drop boards s.members)
+
+-- all members are members of the other
+abbrev pub is_part : BoardSet → BoardSet → Bool
+is_part s t = list_all (λ board. not (has s board) || has t board) (range_with_len 0 16)

@@ -1,7 +1,7 @@
 -- What the calls of a link do, over its limit and the messages that wait on it.
-use Rattle.std.specs.Prelude.{◌≡◌, ℕ, ◌<◌, ◌≤◌, Bool, List, [], ◌∷◌, ◌++◌, length, Some, None, Ok, Err, Option, Result, ◌==◌, nat_lt}
+use Rattle.std.specs.Prelude.{◌≡◌, ℕ, ◌+◌, ◌<◌, ◌≤◌, Bool, List, [], ◌∷◌, ◌++◌, length, Some, None, Ok, Err, Option, Result, ◌==◌, nat_le, nat_lt}
 use Rattle.std.specs.List.{insert}
-use Rattle.wire.specs.Bags.{Bag, Adds, Empty, size}
+use Rattle.wire.specs.Bags.{Bag, ◌⊕◌, Adds, Empty, size}
 use Rattle.wire.specs.Questions.{first_no, refusal, inside}
 use Rattle.wire.specs.declared.fault.Fault.{Fault}
 use Rattle.wire.specs.declared.message.Message.{Message}
@@ -9,6 +9,10 @@ use Rattle.wire.specs.declared.message.Message.{Message}
 -- do fewer wait than the limit?
 abbrev pub post_questions : ℕ → ℕ → List (ℕ × Bool)
 post_questions limit count = (9, nat_lt count limit) ∷ []
+
+-- are so many places free?
+abbrev pub room_questions : ℕ → ℕ → ℕ → List (ℕ × Bool)
+room_questions limit count places = (9, nat_le (count + places) limit) ∷ []
 
 -- the largest limit that a link or a layer is made with
 abbrev pub largest_limit : ℕ
@@ -37,6 +41,10 @@ module _ {L : Type 0} (limit : L → ℕ) (waiting : L → Bag Message) where
   Taken s None t = Empty (waiting s) × (t ≡ s)
   Taken s (Some m) t = Adds m (waiting t) (waiting s) × (limit t ≡ limit s)
 
+  -- messages are posted on s, which leaves t: they join those that wait
+  abbrev pub Sent : List Message → L → L → Type 0
+  Sent ms s t = (waiting t ≡ ms ⊕ waiting s) × (limit t ≡ limit s)
+
   -- s becomes t by posts and takes
   pub data Used : L → L → Type 0 where
     unused : (s : L) → Used s s
@@ -46,6 +54,11 @@ module _ {L : Type 0} (limit : L → ℕ) (waiting : L → Bag Message) where
   -- never do more messages wait than the limit, on a link that began empty
   abbrev pub NeverOver : Type 0
   NeverOver = (s t : L) → size (waiting s) ≡ 0 → Used s t → size (waiting t) ≤ limit t
+
+-- Messages are posted one after another on s, which leaves t, and none is refused. By joins a link says how one post leaves it.
+abbrev pub InTurn : {L : Type 0} → (L → Message → Result (Unit {0}) Fault → L → Type 0) → List Message → L → L → Type 0
+InTurn joins [] s t = t ≡ s
+InTurn {L} joins (m ∷ ms) s t = (u : L) × joins s m (Ok tt) u × InTurn joins ms u t
 
 -- Links that keep their messages in order of posting.
 

@@ -1,5 +1,5 @@
 ghost use Rattle.std.specs.Prelude.{◌≡◌};
-ghost use Rattle.wire.specs.BoardSets.{has, is_empty, with_member, without_member, with_mark};
+ghost use Rattle.wire.specs.BoardSets.{has, is_empty, is_below, with_member, without_member, with_mark};
 
 mod bits;
 
@@ -25,6 +25,14 @@ impl BoardSet {
         ensures { result ≡ is_empty self.now }
     {
         !self.members.contains(&true)
+    }
+
+    /// Have all members numbers below `boards`?
+    #[tactic(auto, using(crate::proofs::BoardSets::none_past))]
+    pub fn is_below(&self, boards: u8) -> bool
+        ensures { result ≡ is_below self.now boards }
+    {
+        boards >= 16 || !self.members[usize::from(boards)..].contains(&true)
     }
 
     pub fn insert(&mut self, board: u8)

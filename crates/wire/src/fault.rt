@@ -4,7 +4,9 @@ ghost use Rattle.wire.specs.Faults.{number};
 /// Why a call is refused, with the number that its refusal answers.
 #[derive(Clone, Copy, PartialEq, Eq, Debug)]
 pub enum Fault {
+    NoSuchBoard = 1,
     NoSuchAddress = 2,
+    AccessOpen = 3,
     BoardsOutOfRange = 4,
     PagesOutOfRange = 5,
     LimitTooLow = 6,
@@ -16,6 +18,8 @@ pub enum Fault {
     BadParties = 12,
     PageOrHopsTooLarge = 13,
     BrokenKindForm = 14,
+    DoesNotBelong = 15,
+    NotExpected = 16,
     BadForm = 17,
     OutOfPlace = 18,
 }

@@ -1,7 +1,7 @@
 ghost use Rattle.std.specs.Prelude.{◌≡◌, ℕ, ◌≤◌};
 ghost use Rattle.wire.specs.Bags.{Bag, size};
 ghost use Rattle.wire.specs.Questions.{refusal, first_no};
-ghost use Rattle.wire.specs.Links.{limit_questions, Posted, Taken, NeverOver};
+ghost use Rattle.wire.specs.Links.{limit_questions, room_questions, Posted, Taken, NeverOver};
 ghost use Rattle.wire.specs.declared.message.Message.{Message as Item};
 
 use crate::choice::Choice;
@@ -46,6 +46,16 @@ pub trait Link: Choice {
         ensures { result ≡ limit self.now };
 
     ghost bound: { (s : Self) → limit s ≤ 65535 };
+}
+
+/// Are so many places free on a link?
+pub fn ask_room<L: Link>(link: &L, places: u16) -> Result<(), Fault>
+    ensures { refusal result ≡ first_no (room_questions (L.limit link.now) (size (L.waiting link.now)) places) }
+{
+    if u32::from(link.count()) + u32::from(places) > u32::from(link.limit()) {
+        return Err(Fault::LinkFull);
+    }
+    Ok(())
 }
 
 /// Never do more messages wait than the limit, whatever is called on a link that began empty.

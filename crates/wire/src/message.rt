@@ -44,6 +44,9 @@ impl TryFrom<u8> for Kind {
     }
 }
 
+/// The most hops that a message can have.
+pub const MOST_HOPS: u8 = 14;
+
 /// What boards send each other. `from` posts it, `asker` is the board whose access it serves, `copies` is a copy set.
 #[derive(Clone, Copy, PartialEq, Eq, Debug)]
 pub struct Message {

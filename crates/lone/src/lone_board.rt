@@ -1,0 +1,63 @@
+ghost use Rattle.std.specs.Prelude.{◌≡◌, true};
+ghost use Rattle.board.specs.Boards.{state_of};
+ghost use Rattle.lone.specs.Forms.{lone_form};
+
+use crate::size::Size;
+use crate::table::PageTable;
+use board::board::Board;
+use board::entry::PageEntry;
+use wire::fault::Fault;
+
+mod accesses;
+mod arrivals;
+
+/// One board with its page table, which may be the board of any kit, over a link that every call is given.
+#[derive(Drop)]
+pub struct LoneBoard {
+    size: Size,
+    state: Board,
+    table: PageTable,
+    ghost form: { lone_form (record { boards = size.boards; pages = size.pages; state = state_of state; table = table.entries }) ≡ true },
+}
+
+impl LoneBoard {
+    ghost use Rattle.std.specs.Prelude.{IfOk, MatchOption, IsTrue, not, nat_lt};
+    ghost use Rattle.lone.specs.Tables.{entry_at};
+    ghost use Rattle.wire.specs.Questions.{refusal, first_no};
+    ghost use Rattle.lone.specs.LoneBoards.{lone_of};
+    ghost use Rattle.lone.specs.Lones.{start_lone};
+    ghost use Rattle.lone.specs.LoneQuestions.{lone_questions};
+
+    /// Board `number` of a kit of `boards` boards and `pages` pages, as it starts.
+    pub fn new(number: u8, boards: u8, pages: u32) -> Result<LoneBoard, Fault>
+        ensures refused { refusal result ≡ first_no (lone_questions number boards pages) }
+        ensures made { IfOk result (λ b. lone_of b ≡ start_lone number boards pages) }
+    {
+        let size = Size::new(boards, pages)?;
+        if number >= boards {
+            return Err(Fault::NoSuchBoard);
+        }
+        Ok(LoneBoard {
+            size,
+            state: Board::start(number),
+            table: PageTable::start(number),
+        })
+    }
+
+    /// The board's own state.
+    pub fn state(&self) -> &Board
+        ensures { state_of result.now ≡ (lone_of self.now).state }
+    {
+        &self.state
+    }
+
+    /// The entry for a page.
+    pub fn entry(&self, page: u32) -> Option<&PageEntry>
+        ensures { MatchOption result (IsTrue (not (nat_lt page self.now.size.pages))) (λ e. IsTrue (nat_lt page self.now.size.pages) × (e.now ≡ entry_at (lone_of self.now).table page)) }
+    {
+        if !self.size.has_page(page) {
+            return None;
+        }
+        self.table.entries.get(page as usize)
+    }
+}

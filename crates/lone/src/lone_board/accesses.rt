@@ -1,0 +1,101 @@
+ghost use Rattle.std.specs.Prelude.{◌≡◌, None, ◌++◌, [], length, MatchResult};
+ghost use Rattle.wire.specs.Bags.{size};
+ghost use Rattle.wire.specs.Links.{Sent, InTurn, room_questions};
+ghost use Rattle.wire.specs.Questions.{refusal, first_no};
+ghost use Rattle.board.specs.Outboxes.{posts, outbox_room};
+ghost use Rattle.lone.specs.Calls.{Is, load_at, store_at};
+ghost use Rattle.lone.specs.LoneBoards.{lone_of};
+ghost use Rattle.lone.specs.LoneQuestions.{access_questions};
+
+use super::LoneBoard;
+use board::answer::AccessAnswer;
+use board::outbox::{OUTBOX_ROOM, Outbox};
+use wire::fault::Fault;
+use wire::link::{Link, ask_room};
+
+impl LoneBoard {
+    /// Loads the word at an address, or opens the load, over a link.
+    pub fn load<L: Link>(&mut self, address: u32, link: &mut L) -> Result<AccessAnswer, Fault>
+        ensures refused { refusal result ≡ first_no (access_questions (lone_of self.old) address ++ room_questions (L.limit link.old) (size (L.waiting link.old)) outbox_room) }
+        ensures done { MatchResult result
+            (λ answer. let o = load_at (lone_of self.old) address in
+                (lone_of self.new ≡ o.board) × (answer ≡ o.answer) × Sent L.Link.limit L.waiting o.posts link.old link.new × InTurn L.Choice.joins o.posts link.old link.new)
+            (λ _. (self.new ≡ self.old) × (link.new ≡ link.old)) }
+    {
+        self.ask_access(address)?;
+        ask_room(link, OUTBOX_ROOM)?;
+        let mut out = Outbox::new();
+        let answer = self.open_load(address, &mut out);
+        out.send(link)?;
+        Ok(answer)
+    }
+
+    /// Stores a word at an address, or opens the store, over a link.
+    pub fn store<L: Link>(&mut self, address: u32, word: u32, link: &mut L) -> Result<AccessAnswer, Fault>
+        ensures refused { refusal result ≡ first_no (access_questions (lone_of self.old) address ++ room_questions (L.limit link.old) (size (L.waiting link.old)) outbox_room) }
+        ensures done { MatchResult result
+            (λ answer. let o = store_at (lone_of self.old) address word in
+                (lone_of self.new ≡ o.board) × (answer ≡ o.answer) × Sent L.Link.limit L.waiting o.posts link.old link.new × InTurn L.Choice.joins o.posts link.old link.new)
+            (λ _. (self.new ≡ self.old) × (link.new ≡ link.old)) }
+    {
+        self.ask_access(address)?;
+        ask_room(link, OUTBOX_ROOM)?;
+        let mut out = Outbox::new();
+        let answer = self.open_store(address, word, &mut out);
+        out.send(link)?;
+        Ok(answer)
+    }
+
+    /// Loads the word at an address, or opens the load. What the board posts stands in the outbox, which must be empty.
+    pub fn load_step(&mut self, address: u32, out: &mut Outbox) -> Result<AccessAnswer, Fault>
+        ensures refused { refusal result ≡ first_no (access_questions (lone_of self.old) address ++ room_questions outbox_room (length (posts out.old)) outbox_room) }
+        ensures done { MatchResult result
+            (λ answer. Is (load_at (lone_of self.old) address) (lone_of self.new) (posts out.new) answer)
+            (λ _. (self.new ≡ self.old) × (out.new ≡ out.old)) }
+    {
+        self.ask_access(address)?;
+        out.ask_empty()?;
+        Ok(self.open_load(address, out))
+    }
+
+    /// Stores a word at an address, or opens the store. What the board posts stands in the outbox, which must be empty.
+    pub fn store_step(&mut self, address: u32, word: u32, out: &mut Outbox) -> Result<AccessAnswer, Fault>
+        ensures refused { refusal result ≡ first_no (access_questions (lone_of self.old) address ++ room_questions outbox_room (length (posts out.old)) outbox_room) }
+        ensures done { MatchResult result
+            (λ answer. Is (store_at (lone_of self.old) address word) (lone_of self.new) (posts out.new) answer)
+            (λ _. (self.new ≡ self.old) × (out.new ≡ out.old)) }
+    {
+        self.ask_access(address)?;
+        out.ask_empty()?;
+        Ok(self.open_store(address, word, out))
+    }
+
+    /// What a load or a store is asked.
+    fn ask_access(&self, address: u32) -> Result<(), Fault>
+        ensures { refusal result ≡ first_no (access_questions (lone_of self.now) address) }
+    {
+        if !self.size.has_address(address) {
+            return Err(Fault::NoSuchAddress);
+        }
+        if !self.state.is_idle() {
+            return Err(Fault::AccessOpen);
+        }
+        Ok(())
+    }
+
+    fn open_load(&mut self, address: u32, out: &mut Outbox) -> AccessAnswer
+        requires accepted { first_no (access_questions (lone_of self.old) address) ≡ None }
+        requires empty { posts out.old ≡ [] }
+        ensures { Is (load_at (lone_of self.old) address) (lone_of self.new) (posts out.new) result }
+    {
+        self.state.load(address, &self.table.entries[(address / 16) as usize], out)
+    }
+
+    fn open_store(&mut self, address: u32, word: u32, out: &mut Outbox) -> AccessAnswer
+        requires accepted { first_no (access_questions (lone_of self.old) address) ≡ None }
+        requires empty { posts out.old ≡ [] }
+        ensures { Is (store_at (lone_of self.old) address word) (lone_of self.new) (posts out.new) result }
+    {
+        self.state.store(address, word, &mut self.table.entries[(address / 16) as usize], out)
+    }
+}
