@@ -47,9 +47,12 @@ abbrev pub put : BoardState → PageEntry → ℕ → ℕ → Opening
 put s e address word = answered s (written e address word) word
 
 -- an owner with copies out has them invalidated first
+abbrev pub clearing_store : BoardState → PageEntry → ℕ → ℕ → Opening
+clearing_store s e address word =
+    opened s e (Clearing (record { store = record { address = address; word = word }; awaited = e.copies; hops = 0 })) (invalidates s.number (page_of address) e.copies)
+
 abbrev pub owner_store : BoardState → PageEntry → ℕ → ℕ → Opening
-owner_store s e address word = cond (is_empty e.copies) (put s e address word)
-    (opened s e (Clearing (record { store = record { address = address; word = word }; awaited = e.copies; hops = 0 })) (invalidates s.number (page_of address) e.copies))
+owner_store s e address word = cond (is_empty e.copies) (put s e address word) (clearing_store s e address word)
 
 -- any other board asks for the page
 abbrev pub asking_store : BoardState → PageEntry → ℕ → ℕ → Opening

@@ -159,9 +159,9 @@ answer_to m board None = arrival.Moved board m.kind m.hops
 abbrev pub Steps : Step → BoardState → PageEntry → List Message → Option Finished → Type 0
 Steps t state entry posts finished = (state ≡ t.state) × (entry ≡ t.entry) × (posts ≡ t.posts) × (finished ≡ t.finished)
 
--- the same with the answer
-abbrev pub Arrives : Step → Message → BoardState → PageEntry → List Message → Arrival → Type 0
-Arrives t m state entry posts answer = (state ≡ t.state) × (entry ≡ t.entry) × (posts ≡ t.posts) × (answer ≡ answer_to m t.state.number t.finished)
+-- the same with the answer of the board
+abbrev pub Arrives : Step → Message → ℕ → BoardState → PageEntry → List Message → Arrival → Type 0
+Arrives t m board state entry posts answer = (state ≡ t.state) × (entry ≡ t.entry) × (posts ≡ t.posts) × (answer ≡ answer_to m board t.finished)
 
 -- a request may join those that wait
 abbrev pub RoomToWait : Kind → List Request → Type 0

@@ -63,8 +63,6 @@ impl Waiting {
     pub fn has_asker(&self, asker: u8) -> bool
         ensures { result ≡ waits asker (queue self.now) }
     {
-        self.requests()
-            .iter()
-            .any(|request| request.asker == asker)
+        self.requests().iter().any(|request| request.asker == asker)
     }
 }

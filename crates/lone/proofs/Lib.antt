@@ -1,0 +1,5 @@
+pub mod EntryForms
+pub mod WaitingForms
+pub mod Accepting
+pub mod LoneForms
+pub mod ArrivalForms

@@ -25,17 +25,17 @@ writes access.None = false
 writes access.Read = false
 writes access.Write = true
 
+-- an owner has access, and access write only while no copies are out; only an owner has access write, or copies out
+abbrev pub owner_form : PageEntry → Bool
+owner_form e = reads e.access && (not (writes e.access) || is_empty e.copies)
+
+abbrev pub other_form : PageEntry → Bool
+other_form e = not (writes e.access) && is_empty e.copies
+
 module _ (boards me : ℕ) where
   -- another of the boards
   abbrev pub another : ℕ → Bool
   another board = nat_lt board boards && not (board == me)
-
-  -- an owner has access, and access write only while no copies are out; only an owner has access write, or copies out
-  abbrev pub owner_form : PageEntry → Bool
-  owner_form e = reads e.access && (not (writes e.access) || is_empty e.copies)
-
-  abbrev pub other_form : PageEntry → Bool
-  other_form e = not (writes e.access) && is_empty e.copies
 
   abbrev pub entry_form : PageEntry → Bool
   entry_form e = nat_lt e.hint boards && is_below e.copies boards && not (has e.copies me) && cond (owns me e) (owner_form e) (other_form e)

@@ -1,4 +1,4 @@
-ghost use Rattle.std.specs.Prelude.{◌≡◌, true};
+ghost use Rattle.std.specs.Prelude.{◌≡◌, true, length};
 ghost use Rattle.board.specs.Boards.{state_of};
 ghost use Rattle.lone.specs.Forms.{lone_form};
 
@@ -17,6 +17,7 @@ pub struct LoneBoard {
     size: Size,
     state: Board,
     table: PageTable,
+    ghost rows: { length table.entries ≡ 16 },
     ghost form: { lone_form (record { boards = size.boards; pages = size.pages; state = state_of state; table = table.entries }) ≡ true },
 }
 

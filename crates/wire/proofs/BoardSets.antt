@@ -104,3 +104,11 @@ pub part_without : (s t : BoardSet) (board : ℕ) → is_part s t ≡ true → i
 part_without s t board h =
     part_step (λ x. not (has s x) || has t x) (λ x. not (has (without_member s board) x) || has t x)
     (λ x e. not_or (has s x) (has (without_member s board) x) (has t x) (was_member s board x) e) (range_with_len 0 16) h
+
+no_member : (k i : ℕ) → get_or (replicate k false) i false ≡ false
+no_member zero i = refl
+no_member (suc k) zero = refl
+no_member (suc k) (suc i) = no_member k i
+
+pub none_has : (board : ℕ) → has no_boards board ≡ false
+none_has board = no_member 16 board

@@ -6,3 +6,4 @@ pub mod Gaps
 pub mod Rows
 pub mod Bounds
 pub mod Sending
+pub mod Questions

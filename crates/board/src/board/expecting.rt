@@ -22,7 +22,8 @@ impl Board {
             }
             (_, Kind::Invalidate) => !is_owned,
             (Stage::Clearing(clearing), Kind::Acknowledgement) => {
-                clearing.store.address / 16 == message.page && clearing.awaited.contains(message.from)
+                clearing.store.address / 16 == message.page
+                    && clearing.awaited.contains(message.from)
             }
             (_, Kind::Copy | Kind::Grant | Kind::Acknowledgement) => false,
         }

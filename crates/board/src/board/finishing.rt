@@ -14,7 +14,13 @@ use wire::message::Message;
 
 impl Board {
     /// A copy finishes the load. Then a deferred invalidation is done, and then the requests that wait are served.
-    pub(super) fn finish_load(&mut self, load: OpenLoad, message: &Message, entry: &mut PageEntry, out: &mut Outbox) -> Option<Finished>
+    pub(super) fn finish_load(
+        &mut self,
+        load: OpenLoad,
+        message: &Message,
+        entry: &mut PageEntry,
+        out: &mut Outbox,
+    ) -> Option<Finished>
         requires { posts out.old ≡ [] }
         ensures { Steps (finish_load load (state_of self.old) entry.old message.now) (state_of self.new) entry.new (posts out.new) result }
     {
@@ -34,7 +40,13 @@ impl Board {
     }
 
     /// A grant for a store: where copies are out, they are invalidated first; else the store finishes.
-    pub(super) fn take_ownership(&mut self, store: OpenStore, message: &Message, entry: &mut PageEntry, out: &mut Outbox) -> Option<Finished>
+    pub(super) fn take_ownership(
+        &mut self,
+        store: OpenStore,
+        message: &Message,
+        entry: &mut PageEntry,
+        out: &mut Outbox,
+    ) -> Option<Finished>
         requires { posts out.old ≡ [] }
         ensures { Steps (take_ownership store (state_of self.old) entry.old message.now) (state_of self.new) entry.new (posts out.new) result }
     {
@@ -55,7 +67,13 @@ impl Board {
     }
 
     /// Ends the waiting for the sender of an acknowledgement. The last one finishes the store.
-    pub(super) fn count_acknowledgement(&mut self, clearing: ClearingStore, message: &Message, entry: &mut PageEntry, out: &mut Outbox) -> Option<Finished>
+    pub(super) fn count_acknowledgement(
+        &mut self,
+        clearing: ClearingStore,
+        message: &Message,
+        entry: &mut PageEntry,
+        out: &mut Outbox,
+    ) -> Option<Finished>
         requires { posts out.old ≡ [] }
         ensures { Steps (count_acknowledgement clearing (state_of self.old) entry.old message.now) (state_of self.new) entry.new (posts out.new) result }
     {
@@ -64,12 +82,22 @@ impl Board {
         if awaited.is_empty() {
             return self.finish_store(clearing.store, clearing.hops, message.page, entry, out);
         }
-        self.stage = Stage::Clearing(ClearingStore { awaited, ..clearing });
+        self.stage = Stage::Clearing(ClearingStore {
+            awaited,
+            ..clearing
+        });
         None
     }
 
     /// The store finishes with access write, no copies out, and its word. Then the requests that wait are served.
-    fn finish_store(&mut self, store: OpenStore, hops: u8, page: u32, entry: &mut PageEntry, out: &mut Outbox) -> Option<Finished>
+    fn finish_store(
+        &mut self,
+        store: OpenStore,
+        hops: u8,
+        page: u32,
+        entry: &mut PageEntry,
+        out: &mut Outbox,
+    ) -> Option<Finished>
         requires { posts out.old ≡ [] }
         ensures { Steps (finish_store store hops (state_of self.old) page entry.old) (state_of self.new) entry.new (posts out.new) result }
     {

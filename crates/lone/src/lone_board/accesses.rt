@@ -19,7 +19,7 @@ impl LoneBoard {
         ensures refused { refusal result ≡ first_no (access_questions (lone_of self.old) address ++ room_questions (L.limit link.old) (size (L.waiting link.old)) outbox_room) }
         ensures done { MatchResult result
             (λ answer. let o = load_at (lone_of self.old) address in
-                (lone_of self.new ≡ o.board) × (answer ≡ o.answer) × Sent L.Link.limit L.waiting o.posts link.old link.new × InTurn L.Choice.joins o.posts link.old link.new)
+            (lone_of self.new ≡ o.board) × (answer ≡ o.answer) × Sent L.Link.limit L.waiting o.posts link.old link.new × InTurn L.Choice.joins o.posts link.old link.new)
             (λ _. (self.new ≡ self.old) × (link.new ≡ link.old)) }
     {
         self.ask_access(address)?;
@@ -31,11 +31,16 @@ impl LoneBoard {
     }
 
     /// Stores a word at an address, or opens the store, over a link.
-    pub fn store<L: Link>(&mut self, address: u32, word: u32, link: &mut L) -> Result<AccessAnswer, Fault>
+    pub fn store<L: Link>(
+        &mut self,
+        address: u32,
+        word: u32,
+        link: &mut L,
+    ) -> Result<AccessAnswer, Fault>
         ensures refused { refusal result ≡ first_no (access_questions (lone_of self.old) address ++ room_questions (L.limit link.old) (size (L.waiting link.old)) outbox_room) }
         ensures done { MatchResult result
             (λ answer. let o = store_at (lone_of self.old) address word in
-                (lone_of self.new ≡ o.board) × (answer ≡ o.answer) × Sent L.Link.limit L.waiting o.posts link.old link.new × InTurn L.Choice.joins o.posts link.old link.new)
+            (lone_of self.new ≡ o.board) × (answer ≡ o.answer) × Sent L.Link.limit L.waiting o.posts link.old link.new × InTurn L.Choice.joins o.posts link.old link.new)
             (λ _. (self.new ≡ self.old) × (link.new ≡ link.old)) }
     {
         self.ask_access(address)?;
@@ -59,7 +64,12 @@ impl LoneBoard {
     }
 
     /// Stores a word at an address, or opens the store. What the board posts stands in the outbox, which must be empty.
-    pub fn store_step(&mut self, address: u32, word: u32, out: &mut Outbox) -> Result<AccessAnswer, Fault>
+    pub fn store_step(
+        &mut self,
+        address: u32,
+        word: u32,
+        out: &mut Outbox,
+    ) -> Result<AccessAnswer, Fault>
         ensures refused { refusal result ≡ first_no (access_questions (lone_of self.old) address ++ room_questions outbox_room (length (posts out.old)) outbox_room) }
         ensures done { MatchResult result
             (λ answer. Is (store_at (lone_of self.old) address word) (lone_of self.new) (posts out.new) answer)
@@ -88,7 +98,8 @@ impl LoneBoard {
         requires empty { posts out.old ≡ [] }
         ensures { Is (load_at (lone_of self.old) address) (lone_of self.new) (posts out.new) result }
     {
-        self.state.load(address, &self.table.entries[(address / 16) as usize], out)
+        self.state
+            .load(address, &self.table.entries[(address / 16) as usize], out)
     }
 
     fn open_store(&mut self, address: u32, word: u32, out: &mut Outbox) -> AccessAnswer
@@ -96,6 +107,11 @@ impl LoneBoard {
         requires empty { posts out.old ≡ [] }
         ensures { Is (store_at (lone_of self.old) address word) (lone_of self.new) (posts out.new) result }
     {
-        self.state.store(address, word, &mut self.table.entries[(address / 16) as usize], out)
+        self.state.store(
+            address,
+            word,
+            &mut self.table.entries[(address / 16) as usize],
+            out,
+        )
     }
 }

@@ -1,4 +1,4 @@
-ghost use Rattle.std.specs.Prelude.{◌≡◌, None, ◌++◌, [], length, MatchResult};
+ghost use Rattle.std.specs.Prelude.{◌≡◌, ◌+◌, ◌≤◌, None, ◌++◌, [], length, IfOk, MatchResult};
 ghost use Rattle.wire.specs.Bags.{size};
 ghost use Rattle.wire.specs.Links.{Sent, InTurn, room_questions};
 ghost use Rattle.wire.specs.Questions.{refusal, first_no};
@@ -21,11 +21,10 @@ impl LoneBoard {
         ensures refused { refusal result ≡ first_no (arrival_questions (lone_of self.old) message.now ++ room_questions (L.limit link.old) (size (L.waiting link.old)) outbox_room) }
         ensures done { MatchResult result
             (λ answer. let o = arrive_at (lone_of self.old) message.now in
-                (lone_of self.new ≡ o.board) × (answer ≡ o.answer) × Sent L.Link.limit L.waiting o.posts link.old link.new × InTurn L.Choice.joins o.posts link.old link.new)
+            (lone_of self.new ≡ o.board) × (answer ≡ o.answer) × Sent L.Link.limit L.waiting o.posts link.old link.new × InTurn L.Choice.joins o.posts link.old link.new)
             (λ _. (self.new ≡ self.old) × (link.new ≡ link.old)) }
     {
-        self.ask_message(message)?;
-        ask_room(link, OUTBOX_ROOM)?;
+        self.ask_arrival(message, link)?;
         let mut out = Outbox::new();
         let answer = self.take_in(message, &mut out);
         out.send(link)?;
@@ -39,12 +38,28 @@ impl LoneBoard {
             (λ answer. Is (arrive_at (lone_of self.old) message.now) (lone_of self.new) (posts out.new) answer)
             (λ _. (self.new ≡ self.old) × (out.new ≡ out.old)) }
     {
-        self.ask_message(message)?;
-        out.ask_empty()?;
+        self.ask_arrival_step(message, out)?;
         Ok(self.take_in(message, out))
     }
 
-    /// What a message is asked.
+    /// What a message is asked over a link: the room comes last.
+    fn ask_arrival<L: Link>(&self, message: &Message, link: &L) -> Result<(), Fault>
+        ensures refused { refusal result ≡ first_no (arrival_questions (lone_of self.now) message.now ++ room_questions (L.limit link.now) (size (L.waiting link.now)) outbox_room) }
+        ensures passed { IfOk result (λ _. (first_no (arrival_questions (lone_of self.now) message.now) ≡ None) × (size (L.waiting link.now) + outbox_room ≤ L.limit link.now)) }
+    {
+        self.ask_message(message)?;
+        ask_room(link, OUTBOX_ROOM)
+    }
+
+    fn ask_arrival_step(&self, message: &Message, out: &Outbox) -> Result<(), Fault>
+        ensures refused { refusal result ≡ first_no (arrival_questions (lone_of self.now) message.now ++ room_questions outbox_room (length (posts out.now)) outbox_room) }
+        ensures passed { IfOk result (λ _. (first_no (arrival_questions (lone_of self.now) message.now) ≡ None) × (posts out.now ≡ [])) }
+    {
+        self.ask_message(message)?;
+        out.ask_empty()
+    }
+
+    /// What a message is asked of itself and of the board.
     fn ask_message(&self, message: &Message) -> Result<(), Fault>
         ensures { refusal result ≡ first_no (arrival_questions (lone_of self.now) message.now) }
     {
@@ -52,7 +67,10 @@ impl LoneBoard {
         if !self.belongs(message) {
             return Err(Fault::DoesNotBelong);
         }
-        if !self.state.expects(&self.table.entries[message.page as usize], message) {
+        if !self
+            .state
+            .expects(&self.table.entries[message.page as usize], message)
+        {
             return Err(Fault::NotExpected);
         }
         Ok(())
