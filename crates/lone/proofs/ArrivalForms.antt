@@ -45,19 +45,19 @@ is_load (StoreAsked store) = false
 is_load (Clearing clearing) = false
 
 module _ (l : Lone) (m : Message) (rows : length l.table ≡ 16) (pages : l.pages ≤ 16) (form : lone_form l ≡ true) (ok : first_no (arrival_questions l m) ≡ None) where
-  is : Accepted l m
+  pub is : Accepted l m
   is = accepted l m ok
 
   me : ℕ
   me = l.state.number
 
-  narrow : m.page < 16
+  pub narrow : m.page < 16
   narrow = omega (arith, is.page, pages)
 
-  entry : EntryTold l.boards l.state.number (entry_at l.table m.page)
+  pub entry : EntryTold l.boards l.state.number (entry_at l.table m.page)
   entry = (lone_told l rows form).entries m.page narrow
 
-  waiting : waiting_form l.boards l.state.number l.state.waiting ≡ true
+  pub waiting : waiting_form l.boards l.state.number l.state.waiting ≡ true
   waiting = (lone_told l rows form).waiting
 
   put_back : set l.table m.page (entry_at l.table m.page) ≡ l.table
@@ -140,7 +140,7 @@ module _ (l : Lone) (m : Message) (rows : length l.table ≡ 16) (pages : l.page
       (back stage n (subst (λ (g : Stage). stage_form l g ≡ true) (sym same) (lone_told l rows form).stage)))
 
   -- what the stage tells, where the board is at it
-  at : (stage : Stage) → l.state.stage ≡ stage → stage_form l stage ≡ true
+  pub at : (stage : Stage) → l.state.stage ≡ stage → stage_form l stage ≡ true
   at stage same = subst (λ (g : Stage). stage_form l g ≡ true) same (lone_told l rows form).stage
 
   invalidated_kept : (load : OpenLoad) (b : Bool) → (page_of load.address == m.page) ≡ b → l.state.stage ≡ LoadAsked load → not_owned l.state (entry_at l.table m.page) ≡ true →
@@ -159,22 +159,26 @@ module _ (l : Lone) (m : Message) (rows : length l.table ≡ 16) (pages : l.page
 
   -- The end of an access.
 
-  copied_kept : (load : OpenLoad) → l.state.stage ≡ LoadAsked load → (page_of load.address == m.page) ≡ true →
-      let t = finish_load load l.state (entry_at l.table m.page) m in Kept t.state t.entry
-  copied_kept load same o =
+  -- the entry that a copy leaves before those that wait are served
+  pub copied_told : (load : OpenLoad) → l.state.stage ≡ LoadAsked load → (page_of load.address == m.page) ≡ true → EntryTold l.boards l.state.number (entry_deferred load.deferred (with_copy (entry_at l.table m.page) m))
+  copied_told load same o =
       let told = at (LoadAsked load) same in
       let a = and_parts (nat_lt (page_of load.address) l.pages && not (reads (entry_at l.table (page_of load.address)).access)) (deferred_form l.boards l.state.number load.deferred) told in
       let b = and_parts (nat_lt (page_of load.address) l.pages) (not (reads (entry_at l.table (page_of load.address)).access)) a.0 in
       let none = subst (λ (p : ℕ). not (reads (entry_at l.table p).access) ≡ true) (eqb-true (page_of load.address) m.page o) b.1 in
       let copy = copy_kept l.boards l.state.number (entry_at l.table m.page) m (grind (arith, none)) is.from entry in
-      closed_kept (entry_deferred load.deferred (with_copy (entry_at l.table m.page) m))
-      (deferred_kept l.boards l.state.number load.deferred (with_copy (entry_at l.table m.page) m) (another_is l.boards l.state.number m.from is.from).1 copy)
+      deferred_kept l.boards l.state.number load.deferred (with_copy (entry_at l.table m.page) m) (another_is l.boards l.state.number m.from is.from).1 copy
+
+  copied_kept : (load : OpenLoad) → l.state.stage ≡ LoadAsked load → (page_of load.address == m.page) ≡ true →
+      let t = finish_load load l.state (entry_at l.table m.page) m in Kept t.state t.entry
+  copied_kept load same o = closed_kept (entry_deferred load.deferred (with_copy (entry_at l.table m.page) m)) (copied_told load same o)
 
   finished_kept : (e : PageEntry) (store : OpenStore) (hops : ℕ) → owns l.state.number e ≡ true → EntryTold l.boards l.state.number e →
       let t = finish_store store hops l.state m.page e in Kept t.state t.entry
   finished_kept e store hops o t = closed_kept (with_store e store) (store_kept l.boards l.state.number e store o t)
 
-  granted : m.kind ≡ Grant → EntryTold l.boards l.state.number (with_grant l.state.number (entry_at l.table m.page) m)
+  -- the entry that a grant leaves
+  pub granted : m.kind ≡ Grant → EntryTold l.boards l.state.number (with_grant l.state.number (entry_at l.table m.page) m)
   granted kind =
       let f = subst (λ (k : Kind). form_of k m ≡ true) kind is.form in
       let a = and_parts (not (has m.copies m.to)) (eqb m.asker m.to) f in
@@ -198,33 +202,35 @@ module _ (l : Lone) (m : Message) (rows : length l.table ≡ 16) (pages : l.page
       (and_from (nat_lt (page_of store.address) l.pages && nat_le m.hops most_hops) (owns l.state.number new)
       (and_from (nat_lt (page_of store.address) l.pages) (nat_le m.hops most_hops) inside.0 is.hops) (eq-eqb l.state.number l.state.number refl)) (not_from_false (is_empty m.copies) e)) (part_same m.copies))
 
+  -- what the form tells of a clearing board
+  clearing_told : (clearing : ClearingStore) → l.state.stage ≡ Clearing clearing →
+      let e = entry_at l.table (page_of clearing.store.address) in
+      ((nat_lt (page_of clearing.store.address) l.pages && nat_le clearing.hops most_hops && owns l.state.number e) ≡ true) × (is_part clearing.awaited e.copies ≡ true)
+  clearing_told clearing same =
+      let e = entry_at l.table (page_of clearing.store.address) in
+      let first = nat_lt (page_of clearing.store.address) l.pages && nat_le clearing.hops most_hops && owns l.state.number e in
+      let p = and_parts (first && not (is_empty clearing.awaited)) (is_part clearing.awaited e.copies) (at (Clearing clearing) same) in
+      ((and_parts first (not (is_empty clearing.awaited)) p.0).0, p.1)
+
+  pub clearing_owns : (clearing : ClearingStore) → l.state.stage ≡ Clearing clearing → (page_of clearing.store.address == m.page) ≡ true → owns l.state.number (entry_at l.table m.page) ≡ true
+  clearing_owns clearing same o =
+      let own = and_parts (nat_lt (page_of clearing.store.address) l.pages && nat_le clearing.hops most_hops) (owns l.state.number (entry_at l.table (page_of clearing.store.address))) (clearing_told clearing same).0 in
+      subst (λ (x : ℕ). owns l.state.number (entry_at l.table x) ≡ true) (eqb-true (page_of clearing.store.address) m.page o) own.1
+
   acknowledged_kept : (clearing : ClearingStore) (b : Bool) → is_empty (without_member clearing.awaited m.from) ≡ b → l.state.stage ≡ Clearing clearing → (page_of clearing.store.address == m.page) ≡ true →
       let t = cond b (finish_store clearing.store clearing.hops l.state m.page (entry_at l.table m.page))
-      (still (at_stage l.state (Clearing (record clearing { awaited = without_member clearing.awaited m.from }))) (entry_at l.table m.page)) in
-      Kept t.state t.entry
-  acknowledged_kept clearing b empty same o =
-      let e = entry_at l.table (page_of clearing.store.address) in
-      let p = and_parts (nat_lt (page_of clearing.store.address) l.pages && nat_le clearing.hops most_hops && owns l.state.number e && not (is_empty clearing.awaited)) (is_part clearing.awaited e.copies) (at (Clearing clearing) same) in
-      let q = and_parts (nat_lt (page_of clearing.store.address) l.pages && nat_le clearing.hops most_hops && owns l.state.number e) (not (is_empty clearing.awaited)) p.0 in
-      let r = and_parts (nat_lt (page_of clearing.store.address) l.pages && nat_le clearing.hops most_hops) (owns l.state.number e) q.0 in
-      by b empty (subst (λ (x : ℕ). owns l.state.number (entry_at l.table x) ≡ true) (eqb-true (page_of clearing.store.address) m.page o) r.1) q.0 p.1
-    where
-      by : (b : Bool) → is_empty (without_member clearing.awaited m.from) ≡ b → owns l.state.number (entry_at l.table m.page) ≡ true →
-          (let e = entry_at l.table (page_of clearing.store.address) in (nat_lt (page_of clearing.store.address) l.pages && nat_le clearing.hops most_hops && owns l.state.number e) ≡ true) →
-          is_part clearing.awaited (entry_at l.table (page_of clearing.store.address)).copies ≡ true →
-          let t = cond b (finish_store clearing.store clearing.hops l.state m.page (entry_at l.table m.page))
           (still (at_stage l.state (Clearing (record clearing { awaited = without_member clearing.awaited m.from }))) (entry_at l.table m.page)) in
-          Kept t.state t.entry
-      by true empty o first part = finished_kept (entry_at l.table m.page) clearing.store clearing.hops o entry
-      by false empty o first part =
-          let rest = without_member clearing.awaited m.from in
-          let e = entry_at l.table (page_of clearing.store.address) in
-          let stage = Clearing (record clearing { awaited = rest }) in
-          step_kept l rows form m.page (at_stage l.state stage) (entry_at l.table m.page) refl entry waiting
-          (ap (λ (t : List PageEntry). stage_form (record l { state = at_stage l.state stage; table = t }) stage) put_back
-          ∙ and_from (nat_lt (page_of clearing.store.address) l.pages && nat_le clearing.hops most_hops && owns l.state.number e && not (is_empty rest)) (is_part rest e.copies)
-          (and_from (nat_lt (page_of clearing.store.address) l.pages && nat_le clearing.hops most_hops && owns l.state.number e) (not (is_empty rest)) first (not_from_false (is_empty rest) empty))
-          (part_without clearing.awaited e.copies m.from part))
+      Kept t.state t.entry
+  acknowledged_kept clearing true empty same o = finished_kept (entry_at l.table m.page) clearing.store clearing.hops (clearing_owns clearing same o) entry
+  acknowledged_kept clearing false empty same o =
+      let told = clearing_told clearing same in
+      let rest = without_member clearing.awaited m.from in
+      let e = entry_at l.table (page_of clearing.store.address) in
+      let first = nat_lt (page_of clearing.store.address) l.pages && nat_le clearing.hops most_hops && owns l.state.number e in
+      let stage = Clearing (record clearing { awaited = rest }) in
+      step_kept l rows form m.page (at_stage l.state stage) (entry_at l.table m.page) refl entry waiting
+      (ap (λ (t : List PageEntry). stage_form (record l { state = at_stage l.state stage; table = t }) stage) put_back
+      ∙ and_from (first && not (is_empty rest)) (is_part rest e.copies) (and_from first (not (is_empty rest)) told.0 (not_from_false (is_empty rest) empty)) (part_without clearing.awaited e.copies m.from told.1))
 
   arrival_kept_by : (stage : Stage) (kind : Kind) → l.state.stage ≡ stage → m.kind ≡ kind → expects stage kind l.state (entry_at l.table m.page) m ≡ true →
       let t = arrives stage kind l.state (entry_at l.table m.page) m in Kept t.state t.entry

@@ -3,3 +3,5 @@ pub mod WaitingForms
 pub mod Accepting
 pub mod LoneForms
 pub mod ArrivalForms
+pub mod PostForms
+pub mod CallPosts

@@ -1,5 +1,8 @@
 -- What the calls of a lone board do, by the rules of a board on the entry of one page.
-use Rattle.std.specs.Prelude.{◌≡◌, ℕ, List, Ok}
+use Rattle.std.specs.Prelude.{◌≡◌, ℕ, List, Result}
+use Rattle.wire.specs.Bags.{Bag}
+use Rattle.wire.specs.Links.{Sent, InTurn}
+use Rattle.wire.specs.declared.fault.Fault.{Fault}
 use Rattle.wire.specs.declared.message.Message.{Message}
 use Rattle.board.specs.declared.answer.AccessAnswer.{AccessAnswer}
 use Rattle.board.specs.declared.answer.Arrival.{Arrival}
@@ -30,6 +33,11 @@ stepped l m t = record { board = after_step l m.page t.state t.entry; posts = t.
 abbrev pub arrive_at : Lone → Message → Outcome Arrival
 arrive_at l m = stepped l m (arrive l.state (entry_at l.table m.page) m)
 
--- the board, the outbox and the answer are those of an outcome
+-- the board afterwards, the outbox and the answer are those of an outcome; the outbox was empty before
 abbrev pub Is : {A : Type 0} → Outcome A → Lone → List Message → A → Type 0
 Is o board posts answer = (board ≡ o.board) × (posts ≡ o.posts) × (answer ≡ o.answer)
+
+-- the same over a link, on which the messages are posted in their order
+abbrev pub IsOver : {L A : Type 0} → (L → ℕ) → (L → Bag Message) → (L → Message → Result (Unit {0}) Fault → L → Type 0) → Outcome A → Lone → A → L → L → Type 0
+IsOver limit waiting joins o board answer before after =
+    (board ≡ o.board) × (answer ≡ o.answer) × Sent limit waiting o.posts before after × InTurn joins o.posts before after

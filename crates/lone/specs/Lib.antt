@@ -5,3 +5,4 @@ pub mod LoneBoards
 pub mod LoneQuestions
 pub mod Calls
 pub mod Forms
+pub mod PostLaws

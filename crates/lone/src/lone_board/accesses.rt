@@ -1,10 +1,11 @@
-ghost use Rattle.std.specs.Prelude.{◌≡◌, None, ◌++◌, [], length, MatchResult};
+ghost use Rattle.std.specs.Prelude.{◌≡◌, None, ◌++◌, [], length, IfOk, MatchResult};
 ghost use Rattle.wire.specs.Bags.{size};
-ghost use Rattle.wire.specs.Links.{Sent, InTurn, room_questions};
+ghost use Rattle.wire.specs.Links.{room_questions};
 ghost use Rattle.wire.specs.Questions.{refusal, first_no};
 ghost use Rattle.board.specs.Outboxes.{posts, outbox_room};
-ghost use Rattle.lone.specs.Calls.{Is, load_at, store_at};
+ghost use Rattle.lone.specs.Calls.{Is, IsOver, load_at, store_at};
 ghost use Rattle.lone.specs.LoneBoards.{lone_of};
+ghost use Rattle.lone.specs.PostLaws.{GoodPosts};
 ghost use Rattle.lone.specs.LoneQuestions.{access_questions};
 
 use super::LoneBoard;
@@ -18,9 +19,9 @@ impl LoneBoard {
     pub fn load<L: Link>(&mut self, address: u32, link: &mut L) -> Result<AccessAnswer, Fault>
         ensures refused { refusal result ≡ first_no (access_questions (lone_of self.old) address ++ room_questions (L.limit link.old) (size (L.waiting link.old)) outbox_room) }
         ensures done { MatchResult result
-            (λ answer. let o = load_at (lone_of self.old) address in
-            (lone_of self.new ≡ o.board) × (answer ≡ o.answer) × Sent L.Link.limit L.waiting o.posts link.old link.new × InTurn L.Choice.joins o.posts link.old link.new)
+            (λ answer. IsOver L.Link.limit L.waiting L.Choice.joins (load_at (lone_of self.old) address) (lone_of self.new) answer link.old link.new)
             (λ _. (self.new ≡ self.old) × (link.new ≡ link.old)) }
+        ensures posts { IfOk result (λ _. GoodPosts (load_at (lone_of self.old) address).posts) }
     {
         self.ask_access(address)?;
         ask_room(link, OUTBOX_ROOM)?;
@@ -39,9 +40,9 @@ impl LoneBoard {
     ) -> Result<AccessAnswer, Fault>
         ensures refused { refusal result ≡ first_no (access_questions (lone_of self.old) address ++ room_questions (L.limit link.old) (size (L.waiting link.old)) outbox_room) }
         ensures done { MatchResult result
-            (λ answer. let o = store_at (lone_of self.old) address word in
-            (lone_of self.new ≡ o.board) × (answer ≡ o.answer) × Sent L.Link.limit L.waiting o.posts link.old link.new × InTurn L.Choice.joins o.posts link.old link.new)
+            (λ answer. IsOver L.Link.limit L.waiting L.Choice.joins (store_at (lone_of self.old) address word) (lone_of self.new) answer link.old link.new)
             (λ _. (self.new ≡ self.old) × (link.new ≡ link.old)) }
+        ensures posts { IfOk result (λ _. GoodPosts (store_at (lone_of self.old) address word).posts) }
     {
         self.ask_access(address)?;
         ask_room(link, OUTBOX_ROOM)?;
@@ -57,6 +58,7 @@ impl LoneBoard {
         ensures done { MatchResult result
             (λ answer. Is (load_at (lone_of self.old) address) (lone_of self.new) (posts out.new) answer)
             (λ _. (self.new ≡ self.old) × (out.new ≡ out.old)) }
+        ensures posts { IfOk result (λ _. GoodPosts (load_at (lone_of self.old) address).posts) }
     {
         self.ask_access(address)?;
         out.ask_empty()?;
@@ -74,6 +76,7 @@ impl LoneBoard {
         ensures done { MatchResult result
             (λ answer. Is (store_at (lone_of self.old) address word) (lone_of self.new) (posts out.new) answer)
             (λ _. (self.new ≡ self.old) × (out.new ≡ out.old)) }
+        ensures posts { IfOk result (λ _. GoodPosts (store_at (lone_of self.old) address word).posts) }
     {
         self.ask_access(address)?;
         out.ask_empty()?;
@@ -96,7 +99,8 @@ impl LoneBoard {
     fn open_load(&mut self, address: u32, out: &mut Outbox) -> AccessAnswer
         requires accepted { first_no (access_questions (lone_of self.old) address) ≡ None }
         requires empty { posts out.old ≡ [] }
-        ensures { Is (load_at (lone_of self.old) address) (lone_of self.new) (posts out.new) result }
+        ensures done { Is (load_at (lone_of self.old) address) (lone_of self.new) (posts out.new) result }
+        ensures posts { GoodPosts (load_at (lone_of self.old) address).posts }
     {
         self.state
             .load(address, &self.table.entries[(address / 16) as usize], out)
@@ -105,7 +109,8 @@ impl LoneBoard {
     fn open_store(&mut self, address: u32, word: u32, out: &mut Outbox) -> AccessAnswer
         requires accepted { first_no (access_questions (lone_of self.old) address) ≡ None }
         requires empty { posts out.old ≡ [] }
-        ensures { Is (store_at (lone_of self.old) address word) (lone_of self.new) (posts out.new) result }
+        ensures done { Is (store_at (lone_of self.old) address word) (lone_of self.new) (posts out.new) result }
+        ensures posts { GoodPosts (store_at (lone_of self.old) address word).posts }
     {
         self.state.store(
             address,

@@ -1,10 +1,11 @@
 ghost use Rattle.std.specs.Prelude.{◌≡◌, ◌+◌, ◌≤◌, None, ◌++◌, [], length, IfOk, MatchResult};
 ghost use Rattle.wire.specs.Bags.{size};
-ghost use Rattle.wire.specs.Links.{Sent, InTurn, room_questions};
+ghost use Rattle.wire.specs.Links.{room_questions};
 ghost use Rattle.wire.specs.Questions.{refusal, first_no};
 ghost use Rattle.board.specs.Outboxes.{posts, outbox_room};
-ghost use Rattle.lone.specs.Calls.{Is, arrive_at};
+ghost use Rattle.lone.specs.Calls.{Is, IsOver, arrive_at};
 ghost use Rattle.lone.specs.LoneBoards.{lone_of};
+ghost use Rattle.lone.specs.PostLaws.{GoodPosts};
 ghost use Rattle.lone.specs.LoneQuestions.{arrival_questions, belongs, expects};
 
 use super::LoneBoard;
@@ -20,9 +21,9 @@ impl LoneBoard {
     pub fn arrive<L: Link>(&mut self, message: &Message, link: &mut L) -> Result<Arrival, Fault>
         ensures refused { refusal result ≡ first_no (arrival_questions (lone_of self.old) message.now ++ room_questions (L.limit link.old) (size (L.waiting link.old)) outbox_room) }
         ensures done { MatchResult result
-            (λ answer. let o = arrive_at (lone_of self.old) message.now in
-            (lone_of self.new ≡ o.board) × (answer ≡ o.answer) × Sent L.Link.limit L.waiting o.posts link.old link.new × InTurn L.Choice.joins o.posts link.old link.new)
+            (λ answer. IsOver L.Link.limit L.waiting L.Choice.joins (arrive_at (lone_of self.old) message.now) (lone_of self.new) answer link.old link.new)
             (λ _. (self.new ≡ self.old) × (link.new ≡ link.old)) }
+        ensures posts { IfOk result (λ _. GoodPosts (arrive_at (lone_of self.old) message.now).posts) }
     {
         self.ask_arrival(message, link)?;
         let mut out = Outbox::new();
@@ -37,6 +38,7 @@ impl LoneBoard {
         ensures done { MatchResult result
             (λ answer. Is (arrive_at (lone_of self.old) message.now) (lone_of self.new) (posts out.new) answer)
             (λ _. (self.new ≡ self.old) × (out.new ≡ out.old)) }
+        ensures posts { IfOk result (λ _. GoodPosts (arrive_at (lone_of self.old) message.now).posts) }
     {
         self.ask_arrival_step(message, out)?;
         Ok(self.take_in(message, out))
@@ -90,7 +92,8 @@ impl LoneBoard {
     fn take_in(&mut self, message: &Message, out: &mut Outbox) -> Arrival
         requires accepted { first_no (arrival_questions (lone_of self.old) message.now) ≡ None }
         requires empty { posts out.old ≡ [] }
-        ensures { Is (arrive_at (lone_of self.old) message.now) (lone_of self.new) (posts out.new) result }
+        ensures done { Is (arrive_at (lone_of self.old) message.now) (lone_of self.new) (posts out.new) result }
+        ensures posts { GoodPosts (arrive_at (lone_of self.old) message.now).posts }
     {
         self.state.arrive(message, &mut self.table.entries[message.page as usize], out)
     }
