@@ -9,3 +9,4 @@ pub mod Serving
 pub mod Openings
 pub mod Steps
 pub mod Expected
+pub mod Laws

@@ -5,3 +5,4 @@ pub mod LoneForms
 pub mod ArrivalForms
 pub mod PostForms
 pub mod CallPosts
+pub mod Owners

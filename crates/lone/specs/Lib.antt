@@ -6,3 +6,4 @@ pub mod LoneQuestions
 pub mod Calls
 pub mod Forms
 pub mod PostLaws
+pub mod Laws

@@ -1,0 +1,11 @@
+ghost use Rattle.board.specs.Laws.{OthersPassOn, OneOwner, ServedOrKept, StoreFinishes, HintStays, LoadsKeepCopies};
+
+/// What the rules of a board come to.
+pub fn board_laws()
+    ensures others { OthersPassOn }
+    ensures owner { OneOwner }
+    ensures requests { ServedOrKept }
+    ensures stores { StoreFinishes }
+    ensures hints { HintStays }
+    ensures loads { LoadsKeepCopies }
+{}
