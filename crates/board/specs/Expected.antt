@@ -8,7 +8,7 @@ use Rattle.wire.specs.declared.message.Kind.TheVariants.{ReadRequest, WriteReque
 use Rattle.board.specs.declared.entry.PageEntry.{PageEntry}
 use Rattle.board.specs.declared.request.Request.{Request}
 use Rattle.board.specs.declared.stage.Stage.{Stage}
-use Rattle.board.specs.declared.stage.Stage.TheVariants.{Idle, LoadAsked, StoreAsked, Clearing}
+use Rattle.board.specs.declared.stage.Stage.TheVariants.{LoadAsked, StoreAsked, Clearing}
 use Rattle.board.specs.Addresses.{page_of}
 use Rattle.board.specs.Boards.{BoardState}
 use Rattle.board.specs.Serving.{owns}

@@ -1,6 +1,6 @@
 -- The messages that a board posts.
 use Rattle.std.specs.Prelude.{ℕ, ◌+◌, List, map, min}
-use Rattle.wire.specs.BoardSets.{members, no_boards, without_member}
+use Rattle.wire.specs.BoardSets.{members, without_member}
 use Rattle.wire.specs.Messages.{blank, most_hops}
 use Rattle.wire.specs.declared.board_set.BoardSet.{BoardSet}
 use Rattle.wire.specs.declared.message.Message.{Message}

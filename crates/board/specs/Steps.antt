@@ -136,7 +136,7 @@ count_acknowledgement clearing s e m =
     let rest = without_member clearing.awaited m.from in
     cond (is_empty rest) (finish_store clearing.store clearing.hops s m.page e) (still (at_stage s (Clearing (record clearing { awaited = rest }))) e)
 
--- What a message does depends on the stage of the open access and on its kind together. A message that is not expected does nothing.
+-- What a message does depends on the stage of the open access and on its kind together. A kind that fits no stage does nothing.
 abbrev pub arrives : Stage → Kind → BoardState → PageEntry → Message → Step
 arrives stage ReadRequest s e m = wait_or_serve stage s e m
 arrives stage WriteRequest s e m = wait_or_serve stage s e m

@@ -1,5 +1,6 @@
 #![tactic(auto)]
 
+pub mod address;
 pub mod answer;
 pub mod board;
 pub mod entry;

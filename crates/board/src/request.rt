@@ -13,7 +13,7 @@ pub enum AccessKind {
 
 impl AccessKind {
     /// The kind of the request that an access asks by.
-    pub fn asks_by(self) -> Kind
+    pub(crate) fn asks_by(self) -> Kind
         ensures { result ≡ asks_by self }
     {
         match self {
@@ -39,7 +39,7 @@ impl Request {
     };
 
     /// The request that a message carries.
-    pub fn in_message(message: &Message) -> Request
+    pub(crate) fn in_message(message: &Message) -> Request
         ensures { result ≡ request_in message.now }
     {
         let kind = match message.kind {

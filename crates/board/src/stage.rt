@@ -1,6 +1,7 @@
 ghost use Rattle.std.specs.Prelude.{◌≡◌};
 ghost use Rattle.board.specs.Stages.{is_on};
 
+use crate::address::page_of;
 use wire::board_set::BoardSet;
 
 /// A load that has asked for its page. An invalidate for the page that comes meanwhile is deferred: its sender is kept.
@@ -37,14 +38,14 @@ pub enum Stage {
 
 impl Stage {
     /// Is an access open on a page?
-    pub fn is_on(self, page: u32) -> bool
+    pub(crate) fn is_on(self, page: u32) -> bool
         ensures { result ≡ is_on self page }
     {
         match self {
             Stage::Idle => false,
-            Stage::LoadAsked(load) => load.address / 16 == page,
-            Stage::StoreAsked(store) => store.address / 16 == page,
-            Stage::Clearing(clearing) => clearing.store.address / 16 == page,
+            Stage::LoadAsked(load) => page_of(load.address) == page,
+            Stage::StoreAsked(store) => page_of(store.address) == page,
+            Stage::Clearing(clearing) => page_of(clearing.store.address) == page,
         }
     }
 }

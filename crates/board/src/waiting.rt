@@ -17,7 +17,7 @@ impl Waiting {
     ghost use Rattle.board.specs.Expected.{waits};
 
     /// No request waits.
-    pub fn new() -> Waiting
+    pub(crate) fn new() -> Waiting
         ensures { queue result ≡ [] }
     {
         Waiting {
@@ -44,7 +44,7 @@ impl Waiting {
         if self.len == 0 {
             return None;
         }
-        // The checker lends no part of a field beside a ghost field, so the few bytes are copied.
+        // Copied, since the checker does not lend it in place: it stands behind a reference, beside a ghost field.
         let mut requests = self.requests;
         let request = take_out(&mut requests[..self.len], 0);
         self.requests = requests;
@@ -53,14 +53,14 @@ impl Waiting {
     }
 
     /// The requests that wait, the oldest first.
-    pub fn requests(&self) -> &[Request]
+    pub(crate) fn requests(&self) -> &[Request]
         ensures { result.now ≡ queue self.now }
     {
         &self.requests[..self.len]
     }
 
     /// Does a request of this asker wait?
-    pub fn has_asker(&self, asker: u8) -> bool
+    pub(crate) fn has_asker(&self, asker: u8) -> bool
         ensures { result ≡ waits asker (queue self.now) }
     {
         self.requests().iter().any(|request| request.asker == asker)

@@ -3,6 +3,7 @@ ghost use Rattle.board.specs.Boards.{state_of, start_state};
 ghost use Rattle.board.specs.Addresses.{page_of};
 ghost use Rattle.lone.specs.Tables.{start_table, with_word_at};
 
+use board::address::{page_of, place_of};
 use board::board::Board;
 use lone::table::PageTable;
 
@@ -32,6 +33,6 @@ impl Node {
         ensures state { self.new.state ≡ self.old.state }
         ensures table { self.new.table.entries ≡ with_word_at self.old.table.entries address word }
     {
-        self.table.entries[(address / 16) as usize].words[(address % 16) as usize] = word;
+        self.table.entries[page_of(address) as usize].words[place_of(address)] = word;
     }
 }

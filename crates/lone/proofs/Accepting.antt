@@ -1,13 +1,12 @@
 -- What it tells of a message that a lone board accepts it.
-use Rattle.std.proofs.Common.{◌≡◌, ℕ, ◌<◌, ◌≤◌, nat_le, nat_lt, Bool, true, false, not, ◌&&◌, List, [], ◌∷◌, ◌++◌, Some, None, refl, ap, ◌∙◌, sym, subst, eqb, arith}
-use Rattle.std.proofs.lemmas.Bool.{and_parts, and_from, ltb-true, leb-true, eqb-true, eqb-false, ne_eqb, true≢false}
-use Rattle.wire.specs.BoardSets.{has, is_below}
+use Rattle.std.proofs.Common.{◌≡◌, ℕ, ◌<◌, nat_le, nat_lt, Bool, true, false, not, ◌&&◌, List, [], ◌∷◌, None, refl, subst, eqb, arith}
+use Rattle.std.proofs.lemmas.Bool.{and_parts, and_from, ltb-true, eqb-true}
+use Rattle.wire.specs.BoardSets.{is_below}
 use Rattle.wire.specs.Kinds.{kind_number}
 use Rattle.wire.specs.Messages.{most_hops}
 use Rattle.wire.specs.Questions.{first_no, inside}
 use Rattle.wire.specs.declared.message.Message.{Message}
-use Rattle.wire.specs.declared.message.Kind.TheVariants.{Grant}
-use Rattle.records.specs.Forms.{has_parties, in_range, kind_form, form_of}
+use Rattle.records.specs.Forms.{has_parties, in_range, kind_form}
 use Rattle.lone.specs.Lones.{Lone}
 use Rattle.lone.specs.LoneQuestions.{access_questions, arrival_questions, belongs, expects}
 use Rattle.lone.specs.Sizes.{has_address}

@@ -1,19 +1,14 @@
 -- The form of a lone board is kept by every message that it accepts.
-use Rattle.std.proofs.Common.{◌≡◌, ℕ, zero, suc, ◌+◌, ◌*◌, ◌/◌, ◌<◌, ◌≤◌, nat_le, nat_lt, Bool, true, false, not, cond, ◌&&◌, ◌||◌, List, [], ◌∷◌, ◌++◌, Some, None, Option, length, set, get_or, refl, ap, ◌∙◌, sym, subst, eqb, ◌==◌, arith}
-use Rattle.std.proofs.lemmas.Bool.{and_parts, and_from, or_parts, not_from_false, lt-ltb, ltb-true, le-leb, leb-true, eqb-true, eqb-false, ne_eqb, eq-eqb, cases_eq, true≢false}
-use Rattle.std.proofs.lemmas.Bool.Decides.{nat_tests}
-use Rattle.std.proofs.lemmas.List.{get_or-set_same, get_or-set_other, set-get_or, length-set}
-use Rattle.std.specs.List.{list_all}
-use Rattle.wire.specs.BoardSets.{has, is_empty, is_below, is_part, without_member}
+use Rattle.std.proofs.Common.{◌≡◌, ℕ, ◌<◌, ◌≤◌, nat_le, nat_lt, Bool, true, false, not, cond, ◌&&◌, List, [], Some, None, length, set, refl, ap, ◌∙◌, sym, subst, eqb, ◌==◌, arith}
+use Rattle.std.proofs.lemmas.Bool.{and_parts, and_from, not_from_false, lt-ltb, eqb-true, eq-eqb, true≢false}
+use Rattle.std.proofs.lemmas.List.{set-get_or}
+use Rattle.wire.specs.BoardSets.{has, is_empty, is_part, without_member}
 use Rattle.wire.specs.Messages.{most_hops}
 use Rattle.wire.specs.declared.message.Message.{Message}
 use Rattle.wire.specs.declared.message.Kind.{Kind}
 use Rattle.wire.specs.declared.message.Kind.TheVariants.{ReadRequest, WriteRequest, Copy, Grant, Invalidate, Acknowledgement}
 use Rattle.wire.proofs.BoardSets.{part_same, part_without}
 use Rattle.board.specs.declared.entry.PageEntry.{PageEntry}
-use Rattle.board.specs.declared.entry.Access.{Access}
-use Rattle.board.specs.declared.entry.Access.TheVariants as access
-use Rattle.board.specs.declared.request.Request.{Request}
 use Rattle.board.specs.declared.stage.Stage.{Stage}
 use Rattle.board.specs.declared.stage.Stage.TheVariants.{Idle, LoadAsked, StoreAsked, Clearing}
 use Rattle.board.specs.declared.stage.OpenLoad.{OpenLoad}
@@ -21,22 +16,22 @@ use Rattle.board.specs.declared.stage.OpenStore.{OpenStore}
 use Rattle.board.specs.declared.stage.ClearingStore.{ClearingStore}
 use Rattle.board.specs.Addresses.{page_of}
 use Rattle.board.specs.Boards.{BoardState, at_stage}
-use Rattle.board.specs.Expected.{waits, is_some, new_asker, not_owned, expects}
-use Rattle.board.specs.Openings.{load, load_with, store, store_with, put, owner_store, clearing_store, asking_store, written}
+use Rattle.board.specs.Expected.{waits, new_asker, not_owned, expects}
+use Rattle.board.specs.Openings.{load, store}
 use Rattle.board.specs.Serving.{owns, served, entry_after}
-use Rattle.board.specs.Stages.{is_on, is_idle}
-use Rattle.board.specs.Steps.{Step, RoomToWait, arrive, arrives, request_in, with_waiting, join, serve, defer, wait_or_serve, finish_load, finish_store, clear, still, take_ownership, count_acknowledgement, defer_or_give_back, give_back, given_back, with_copy, with_grant, with_store, entry_deferred}
+use Rattle.board.specs.Stages.{is_on}
+use Rattle.board.specs.Steps.{RoomToWait, arrives, request_in, with_waiting, join, serve, defer, finish_load, finish_store, clear, still, give_back, given_back, with_copy, with_grant, with_store, entry_deferred}
 use Rattle.wire.specs.Questions.{first_no}
 use Rattle.records.specs.Forms.{form_of}
 use Rattle.lone.specs.Lones.{Lone, after_step}
 use Rattle.lone.specs.Tables.{entry_at, no_entry}
-use Rattle.lone.specs.LoneQuestions.{access_questions, arrival_questions}
-use Rattle.lone.specs.Calls.{load_at, store_at, arrive_at}
-use Rattle.lone.specs.Forms.{reads, writes, another, owner_form, other_form, entry_form, waiting_form, deferred_form, is_none, stage_form, lone_form}
-use Rattle.lone.proofs.EntryForms.{EntryTold, told, kept, another_is, owner_rest, served_kept, all_kept, back_kept, no_access, copy_kept, deferred_kept, store_kept, grant_kept, written_kept, writer_told}
+use Rattle.lone.specs.LoneQuestions.{arrival_questions}
+use Rattle.lone.specs.Calls.{arrive_at}
+use Rattle.lone.specs.Forms.{reads, another, waiting_form, deferred_form, stage_form, lone_form}
+use Rattle.lone.proofs.EntryForms.{EntryTold, another_is, served_kept, all_kept, back_kept, copy_kept, deferred_kept, store_kept, grant_kept}
 use Rattle.lone.proofs.WaitingForms.{joined_kept, crowd}
-use Rattle.lone.proofs.Accepting.{access_told, Accepted, accepted}
-use Rattle.lone.proofs.LoneForms.{lone_told, step_kept, entry_put, entry_other, nothing_kept}
+use Rattle.lone.proofs.Accepting.{Accepted, accepted}
+use Rattle.lone.proofs.LoneForms.{lone_told, step_kept, entry_put, entry_other}
 
 abbrev is_load : Stage → Bool
 is_load Idle = false
@@ -219,7 +214,7 @@ module _ (l : Lone) (m : Message) (rows : length l.table ≡ 16) (pages : l.page
 
   acknowledged_kept : (clearing : ClearingStore) (b : Bool) → is_empty (without_member clearing.awaited m.from) ≡ b → l.state.stage ≡ Clearing clearing → (page_of clearing.store.address == m.page) ≡ true →
       let t = cond b (finish_store clearing.store clearing.hops l.state m.page (entry_at l.table m.page))
-          (still (at_stage l.state (Clearing (record clearing { awaited = without_member clearing.awaited m.from }))) (entry_at l.table m.page)) in
+      (still (at_stage l.state (Clearing (record clearing { awaited = without_member clearing.awaited m.from }))) (entry_at l.table m.page)) in
       Kept t.state t.entry
   acknowledged_kept clearing true empty same o = finished_kept (entry_at l.table m.page) clearing.store clearing.hops (clearing_owns clearing same o) entry
   acknowledged_kept clearing false empty same o =

@@ -1,6 +1,6 @@
 -- The messages that a lone board posts in one call have their form.
-use Rattle.std.proofs.Common.{◌≡◌, ℕ, ◌*◌, ◌<◌, ◌≤◌, nat_lt, Bool, true, false, not, cond, ◌&&◌, List, [], ◌∷◌, ◌++◌, Some, None, Option, length, refl, ap, ◌∙◌, sym, subst, eqb, ◌==◌, arith}
-use Rattle.std.proofs.lemmas.Bool.{and_parts, and_from, not_from_false, lt-ltb, ltb-true, leb-true, eqb-true, eqb-false, true≢false, eq-eqb}
+use Rattle.std.proofs.Common.{◌≡◌, ℕ, ◌*◌, ◌<◌, ◌≤◌, nat_lt, Bool, true, false, not, cond, ◌&&◌, ◌++◌, Some, None, Option, length, refl, ap, eqb, ◌==◌, arith}
+use Rattle.std.proofs.lemmas.Bool.{and_parts, and_from, lt-ltb, ltb-true, leb-true, eqb-false, eq-eqb}
 use Rattle.std.specs.List.{AllByRecursion}
 use Rattle.wire.specs.BoardSets.{has, is_empty, without_member}
 use Rattle.wire.specs.Questions.{first_no}
@@ -12,19 +12,19 @@ use Rattle.board.specs.declared.entry.Access.{Access}
 use Rattle.board.specs.declared.entry.Access.TheVariants as access
 use Rattle.board.specs.declared.request.AccessKind.TheVariants.{Load, Store}
 use Rattle.board.specs.declared.stage.Stage.{Stage}
-use Rattle.board.specs.declared.stage.Stage.TheVariants.{Idle, LoadAsked, StoreAsked, Clearing}
+use Rattle.board.specs.declared.stage.Stage.TheVariants.{LoadAsked, StoreAsked, Clearing}
 use Rattle.board.specs.declared.stage.OpenLoad.{OpenLoad}
 use Rattle.board.specs.declared.stage.OpenStore.{OpenStore}
 use Rattle.board.specs.declared.stage.ClearingStore.{ClearingStore}
 use Rattle.board.specs.Addresses.{page_of}
 use Rattle.board.specs.Boards.{at_stage}
-use Rattle.board.specs.Expected.{expects, waits, not_owned, new_asker}
+use Rattle.board.specs.Expected.{expects, waits, new_asker}
 use Rattle.board.specs.Openings.{load_with, store_with, put, owner_store, clearing_store, asking_store}
 use Rattle.board.specs.Serving.{owns, posts_for}
 use Rattle.board.specs.Stages.{is_on}
 use Rattle.board.specs.Steps.{arrives, request_in, join, serve, defer, give_back, finish_store, clear, still, with_copy, with_grant, with_store, entry_deferred, posts_deferred}
 use Rattle.lone.specs.Calls.{load_at, store_at, arrive_at}
-use Rattle.lone.specs.Forms.{reads, another, deferred_form, lone_form}
+use Rattle.lone.specs.Forms.{reads, deferred_form, lone_form}
 use Rattle.lone.specs.LoneQuestions.{access_questions, arrival_questions}
 use Rattle.lone.specs.Lones.{Lone}
 use Rattle.lone.specs.PostLaws.{HasForm}
@@ -48,9 +48,11 @@ module _ (l : Lone) (rows : length l.table ≡ 16) (boards : l.boards ≤ 16) (p
 
     load_formed : (a : Access) → (entry_at l.table (page_of address)).access ≡ a → AllByRecursion HasForm (load_with a l.state (entry_at l.table (page_of address)) address).posts
     load_formed access.None e =
-        let e0 = entry_at l.table (page_of address) in
-        (own_formed l.boards l.state.number (page_of address) boards mine inside Load e0.hint here.hint
-        (eqb-false e0.hint l.state.number (no_access l.boards l.state.number e0 (ap reads e) here)), tt)
+        let e0 = entry_at l.table (page_of address) in (
+          own_formed l.boards l.state.number (page_of address) boards mine inside Load e0.hint here.hint
+              (eqb-false e0.hint l.state.number (no_access l.boards l.state.number e0 (ap reads e) here)),
+          tt,
+        )
     load_formed access.Read e = tt
     load_formed access.Write e = tt
 
@@ -92,9 +94,11 @@ module _ (l : Lone) (rows : length l.table ≡ 16) (boards : l.boards ≤ 16) (p
     request_formed : (b : Bool) → new_asker l.state m ≡ true → AllByRecursion HasForm (cond b (join l.state (entry_at l.table m.page) m) (serve l.state (entry_at l.table m.page) m)).posts
     request_formed true n = tt
     request_formed false n =
-        let a = and_parts (not (eqb m.asker l.state.number)) (not (waits m.asker l.state.waiting)) n in
-        (served_formed l.boards l.state.number m.page boards mine paged (entry_at l.table m.page) (request_in m)
-        (and_from (nat_lt m.asker l.boards) (not (eqb m.asker l.state.number)) (lt-ltb m.asker l.boards it.asker) a.0) (leb-true m.hops 14 it.hops) told, tt)
+        let a = and_parts (not (eqb m.asker l.state.number)) (not (waits m.asker l.state.waiting)) n in (
+          served_formed l.boards l.state.number m.page boards mine paged (entry_at l.table m.page) (request_in m)
+              (and_from (nat_lt m.asker l.boards) (not (eqb m.asker l.state.number)) (lt-ltb m.asker l.boards it.asker) a.0) (leb-true m.hops 14 it.hops) told,
+          tt,
+        )
 
     back_formed : AllByRecursion HasForm (give_back l.state (entry_at l.table m.page) m).posts
     back_formed = (acknowledgement_formed l.boards l.state.number m.page boards mine paged m.from it.from, tt)
@@ -125,7 +129,7 @@ module _ (l : Lone) (rows : length l.table ≡ 16) (boards : l.boards ≤ 16) (p
 
     acknowledgement_counted : (clearing : ClearingStore) (b : Bool) → l.state.stage ≡ Clearing clearing → (page_of clearing.store.address == m.page) ≡ true →
         AllByRecursion HasForm (cond b (finish_store clearing.store clearing.hops l.state m.page (entry_at l.table m.page))
-            (still (at_stage l.state (Clearing (record clearing { awaited = without_member clearing.awaited m.from }))) (entry_at l.table m.page))).posts
+        (still (at_stage l.state (Clearing (record clearing { awaited = without_member clearing.awaited m.from }))) (entry_at l.table m.page))).posts
     acknowledgement_counted clearing true same o =
         let e = entry_at l.table m.page in
         wait_formed (with_store e clearing.store) (store_kept l.boards l.state.number e clearing.store (clearing_owns l m rows pages form ok clearing same o) told)

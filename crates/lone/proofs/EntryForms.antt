@@ -1,14 +1,11 @@
 -- The form of a page's entry is kept by the rules.
-use Rattle.std.proofs.Common.{◌≡◌, ℕ, zero, suc, ◌<◌, nat_le, nat_lt, Bool, true, false, not, cond, ◌&&◌, ◌||◌, List, [], ◌∷◌, Some, None, Option, refl, ap, ◌∙◌, sym, subst, eqb, arith}
+use Rattle.std.proofs.Common.{◌≡◌, ℕ, ◌<◌, nat_le, nat_lt, Bool, true, false, not, cond, ◌&&◌, ◌||◌, List, [], ◌∷◌, Some, None, Option, refl, ap, ◌∙◌, sym, eqb, arith}
 use Rattle.std.proofs.lemmas.Bool.{and_parts, and_from, not_from_false, lt-ltb, ltb-true, eqb-false, eqb-true, ne_eqb, eq-eqb, true≢false}
-use Rattle.std.proofs.lemmas.Bool.Decides.{nat_tests}
-use Rattle.wire.specs.BoardSets.{has, is_empty, is_below, no_boards, with_member, without_member}
+use Rattle.wire.specs.BoardSets.{has, is_empty, is_below}
 use Rattle.wire.specs.declared.message.Message.{Message}
 use Rattle.wire.proofs.BoardSets.{below_with, below_none, other_member, none_has}
 use Rattle.wire.specs.Messages.{most_hops}
 use Rattle.board.specs.declared.entry.PageEntry.{PageEntry}
-use Rattle.board.specs.declared.entry.Access.{Access}
-use Rattle.board.specs.declared.entry.Access.TheVariants as access
 use Rattle.board.specs.declared.request.AccessKind.{AccessKind}
 use Rattle.board.specs.declared.request.AccessKind.TheVariants.{Load, Store}
 use Rattle.board.specs.declared.request.Request.{Request}
@@ -16,9 +13,9 @@ use Rattle.board.specs.declared.stage.OpenStore.{OpenStore}
 use Rattle.board.specs.Entries.{start_entry}
 use Rattle.board.specs.Expected.{waits}
 use Rattle.board.specs.Openings.{written}
-use Rattle.board.specs.Serving.{owns, shared, given_up, granted, passed_on, served_by_owner, served, entry_after}
+use Rattle.board.specs.Serving.{owns, shared, given_up, passed_on, served_by_owner, served, entry_after}
 use Rattle.board.specs.Steps.{given_back, with_copy, entry_deferred, with_store, with_grant}
-use Rattle.lone.specs.Forms.{reads, writes, another, owner_form, other_form, entry_form, waiting_form, deferred_form}
+use Rattle.lone.specs.Forms.{reads, writes, another, owner_form, other_form, entry_form, waiting_form}
 
 -- what the form tells
 pub record EntryTold (boards me : ℕ) (e : PageEntry) : Type 0 where

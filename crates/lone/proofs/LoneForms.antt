@@ -1,41 +1,29 @@
 -- The form of a lone board is kept by every call.
-use Rattle.std.proofs.Common.{◌≡◌, ℕ, zero, suc, ◌+◌, ◌*◌, ◌/◌, ◌<◌, ◌≤◌, nat_le, nat_lt, Bool, true, false, not, cond, ◌&&◌, ◌||◌, List, [], ◌∷◌, ◌++◌, Some, None, Option, length, set, get_or, replicate, refl, ap, ◌∙◌, sym, subst, eqb, arith}
-use Rattle.std.proofs.lemmas.Bool.{and_parts, and_from, or_parts, not_from_false, lt-ltb, ltb-true, le-leb, leb-true, eqb-true, eqb-false, ne_eqb, eq-eqb, cases_eq, true≢false}
-use Rattle.std.proofs.lemmas.Bool.Decides.{nat_tests}
-use Rattle.std.proofs.lemmas.List.{get_or-set_same, get_or-set_other, set-get_or, length-set}
+use Rattle.std.proofs.Common.{◌≡◌, ℕ, zero, suc, ◌*◌, ◌<◌, ◌≤◌, nat_lt, Bool, true, false, not, cond, ◌&&◌, List, [], ◌∷◌, None, length, set, get_or, replicate, refl, ap, ◌∙◌, sym, subst, eqb, arith}
+use Rattle.std.proofs.lemmas.Bool.{and_parts, and_from, not_from_false, lt-ltb, ltb-true, eqb-false, true≢false}
+use Rattle.std.proofs.lemmas.List.{get_or-set_same, get_or-set_other, set-get_or}
 use Rattle.std.specs.List.{list_all}
-use Rattle.wire.specs.BoardSets.{has, is_empty, is_below, is_part, without_member}
-use Rattle.wire.specs.Messages.{most_hops}
-use Rattle.wire.specs.declared.message.Message.{Message}
-use Rattle.wire.specs.declared.message.Kind.{Kind}
-use Rattle.wire.specs.declared.message.Kind.TheVariants.{ReadRequest, WriteRequest, Copy, Grant, Invalidate, Acknowledgement}
-use Rattle.wire.proofs.BoardSets.{part_same, part_without}
+use Rattle.wire.specs.BoardSets.{is_empty, is_part}
+use Rattle.wire.proofs.BoardSets.{part_same}
 use Rattle.board.specs.declared.entry.PageEntry.{PageEntry}
 use Rattle.board.specs.declared.entry.Access.{Access}
 use Rattle.board.specs.declared.entry.Access.TheVariants as access
-use Rattle.board.specs.declared.request.Request.{Request}
 use Rattle.board.specs.declared.stage.Stage.{Stage}
 use Rattle.board.specs.declared.stage.Stage.TheVariants.{Idle, LoadAsked, StoreAsked, Clearing}
-use Rattle.board.specs.declared.stage.OpenLoad.{OpenLoad}
-use Rattle.board.specs.declared.stage.OpenStore.{OpenStore}
-use Rattle.board.specs.declared.stage.ClearingStore.{ClearingStore}
 use Rattle.board.specs.Addresses.{page_of}
 use Rattle.board.specs.Boards.{BoardState, at_stage, start_state}
-use Rattle.board.specs.Expected.{waits, is_some, new_asker, not_owned}
 use Rattle.board.specs.Openings.{load, load_with, store, store_with, put, owner_store, clearing_store, asking_store, written}
-use Rattle.board.specs.Serving.{owns, served}
-use Rattle.board.specs.Stages.{is_on, is_idle}
-use Rattle.board.specs.Steps.{Step, arrive, arrives, request_in, with_waiting, wait_or_serve, finish_load, finish_store, take_ownership, count_acknowledgement, defer_or_give_back, give_back, given_back, with_copy, with_grant, with_store, entry_deferred}
+use Rattle.board.specs.Serving.{owns}
+use Rattle.board.specs.Stages.{is_idle}
 use Rattle.wire.specs.Questions.{first_no}
 use Rattle.board.specs.Entries.{start_entry}
 use Rattle.lone.specs.Lones.{Lone, after_step, start_lone}
 use Rattle.lone.specs.Tables.{entry_at, no_entry, start_table}
-use Rattle.lone.specs.LoneQuestions.{access_questions, arrival_questions}
-use Rattle.lone.specs.Calls.{load_at, store_at, arrive_at}
-use Rattle.lone.specs.Forms.{reads, writes, another, owner_form, other_form, entry_form, waiting_form, deferred_form, is_none, stage_form, lone_form}
-use Rattle.lone.proofs.EntryForms.{EntryTold, told, kept, start_kept, another_is, owner_rest, served_kept, all_kept, back_kept, no_access, copy_kept, deferred_kept, store_kept, grant_kept, written_kept, writer_told}
-use Rattle.lone.proofs.WaitingForms.{joined_kept, crowd}
-use Rattle.lone.proofs.Accepting.{access_told, Accepted, accepted}
+use Rattle.lone.specs.LoneQuestions.{access_questions}
+use Rattle.lone.specs.Calls.{load_at, store_at}
+use Rattle.lone.specs.Forms.{reads, writes, entry_form, waiting_form, stage_form, lone_form}
+use Rattle.lone.proofs.EntryForms.{EntryTold, told, kept, start_kept, written_kept, writer_told}
+use Rattle.lone.proofs.Accepting.{access_told}
 
 all_set : {X : Type 0} (p : X → Bool) (xs : List X) (i : ℕ) (y : X) → list_all p xs ≡ true → p y ≡ true → list_all p (set xs i y) ≡ true
 all_set p [] i y h e = h
@@ -129,6 +117,10 @@ module _ (l : Lone) (rows : length l.table ≡ 16) (pages : l.pages ≤ 16) (for
   pub loaded_kept : lone_form (load_at l address).board ≡ true
   loaded_kept = load_kept_by (entry_at l.table (page_of address)).access refl
 
+  -- with the page by another name
+  pub loaded_at : (page : ℕ) → page ≡ page_of address → let o = load l.state (entry_at l.table page) address in lone_form (after_step l page o.state o.entry) ≡ true
+  loaded_at page e = subst (λ (p : ℕ). let o = load l.state (entry_at l.table p) address in lone_form (after_step l p o.state o.entry) ≡ true) (sym e) loaded_kept
+
   put_kept : (word : ℕ) → owns l.state.number (entry_at l.table (page_of address)) ≡ true → is_empty (entry_at l.table (page_of address)).copies ≡ true →
       let o = put l.state (entry_at l.table (page_of address)) address word in lone_form (after_step l (page_of address) o.state o.entry) ≡ true
   put_kept word o e =
@@ -179,6 +171,9 @@ module _ (l : Lone) (rows : length l.table ≡ 16) (pages : l.pages ≤ 16) (for
 
   pub stored_kept : (word : ℕ) → lone_form (store_at l address word).board ≡ true
   stored_kept word = store_kept_by word (entry_at l.table (page_of address)).access refl
+
+  pub stored_at : (word page : ℕ) → page ≡ page_of address → let o = store l.state (entry_at l.table page) address word in lone_form (after_step l page o.state o.entry) ≡ true
+  stored_at word page e = subst (λ (p : ℕ). let o = store l.state (entry_at l.table p) address word in lone_form (after_step l p o.state o.entry) ≡ true) (sym e) (stored_kept word)
 
 -- a board as it starts
 all_start : {X : Type 0} (p : X → Bool) (x : X) (n : ℕ) → p x ≡ true → list_all p (replicate n x) ≡ true

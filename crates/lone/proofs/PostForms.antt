@@ -1,11 +1,11 @@
 -- The messages that a board posts have their form.
-use Rattle.std.proofs.Common.{◌≡◌, ℕ, zero, suc, ◌+◌, ◌<◌, ◌≤◌, min, nat_le, nat_lt, Bool, true, false, not, cond, ◌&&◌, List, [], ◌∷◌, ◌++◌, map, Some, None, Option, refl, ap, ◌∙◌, sym, subst, eqb, arith}
-use Rattle.std.proofs.lemmas.Bool.{and_parts, and_from, not_from_false, lt-ltb, le-leb, leb-true, eqb-false, ne_eqb, eq-eqb, true≢false}
+use Rattle.std.proofs.Common.{◌≡◌, ℕ, ◌+◌, ◌<◌, ◌≤◌, min, nat_le, nat_lt, Bool, true, false, not, cond, ◌&&◌, List, [], ◌∷◌, ◌++◌, map, refl, ap, ◌∙◌, sym, eqb, arith}
+use Rattle.std.proofs.lemmas.Bool.{and_from, not_from_false, lt-ltb, le-leb, leb-true, eqb-false, ne_eqb, eq-eqb, true≢false}
 use Rattle.std.specs.List.{AllByRecursion, filter, range_with_len}
-use Rattle.wire.specs.BoardSets.{has, is_empty, is_below, members, without_member}
+use Rattle.wire.specs.BoardSets.{has, is_below, without_member}
 use Rattle.wire.specs.Kinds.{kind_number}
 use Rattle.wire.specs.Messages.{most_hops}
-use Rattle.wire.specs.Questions.{first_no, inside}
+use Rattle.wire.specs.Questions.{inside}
 use Rattle.wire.specs.declared.board_set.BoardSet.{BoardSet}
 use Rattle.wire.specs.declared.message.Message.{Message}
 use Rattle.wire.specs.declared.message.Kind.{Kind}
@@ -16,7 +16,7 @@ use Rattle.board.specs.declared.entry.PageEntry.{PageEntry}
 use Rattle.board.specs.declared.request.AccessKind.{AccessKind}
 use Rattle.board.specs.declared.request.AccessKind.TheVariants.{Load, Store}
 use Rattle.board.specs.declared.request.Request.{Request}
-use Rattle.board.specs.Posts.{asks_by, own_request, request_on, copy_for, grant_for, invalidate, invalidates, acknowledgement}
+use Rattle.board.specs.Posts.{own_request, request_on, copy_for, grant_for, invalidate, invalidates, acknowledgement}
 use Rattle.board.specs.Serving.{owns, served, served_by_owner, passed_on, posts_for}
 use Rattle.lone.specs.Forms.{another, waiting_form}
 use Rattle.lone.specs.PostLaws.{HasForm}

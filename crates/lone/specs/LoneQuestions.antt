@@ -1,5 +1,5 @@
 -- What a lone board asks.
-use Rattle.std.specs.Prelude.{ℕ, ◌*◌, Bool, ◌&&◌, List, [], ◌∷◌, ◌++◌, ◌==◌, nat_lt}
+use Rattle.std.specs.Prelude.{ℕ, Bool, ◌&&◌, List, [], ◌∷◌, ◌++◌, ◌==◌, nat_lt}
 use Rattle.wire.specs.BoardSets.{is_below}
 use Rattle.wire.specs.declared.message.Message.{Message}
 use Rattle.records.specs.Forms.{message_questions}

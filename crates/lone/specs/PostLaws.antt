@@ -1,5 +1,5 @@
 -- What holds of the messages that a board posts in one call.
-use Rattle.std.specs.Prelude.{◌≡◌, ℕ, ◌≤◌, List, length, None}
+use Rattle.std.specs.Prelude.{◌≡◌, ◌≤◌, List, length, None}
 use Rattle.std.specs.List.{AllByRecursion}
 use Rattle.wire.specs.Questions.{first_no}
 use Rattle.wire.specs.declared.message.Message.{Message}

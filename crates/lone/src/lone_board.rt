@@ -6,6 +6,8 @@ use crate::size::Size;
 use crate::table::PageTable;
 use board::board::Board;
 use board::entry::PageEntry;
+use board::request::Request;
+use board::stage::Stage;
 use wire::fault::Fault;
 
 mod accesses;
@@ -22,7 +24,7 @@ pub struct LoneBoard {
 }
 
 impl LoneBoard {
-    ghost use Rattle.std.specs.Prelude.{IfOk, MatchOption, IsTrue, not, nat_lt};
+    ghost use Rattle.std.specs.Prelude.{◌<◌, ◌≤◌, IfOk, MatchOption};
     ghost use Rattle.lone.specs.Tables.{entry_at};
     ghost use Rattle.wire.specs.Questions.{refusal, first_no};
     ghost use Rattle.lone.specs.LoneBoards.{lone_of};
@@ -45,16 +47,32 @@ impl LoneBoard {
         })
     }
 
-    /// The board's own state.
-    pub fn state(&self) -> &Board
-        ensures { state_of result.now ≡ (lone_of self.now).state }
+    /// The board's number.
+    pub fn number(&self) -> u8
+        ensures { result ≡ (lone_of self.now).state.number }
     {
-        &self.state
+        self.state.number()
     }
 
-    /// The entry for a page.
+    /// The open access, and how far it has come.
+    pub fn stage(&self) -> Stage
+        ensures { result ≡ (lone_of self.now).state.stage }
+    {
+        self.state.stage()
+    }
+
+    /// The requests that wait, the oldest first.
+    pub fn waiting(&self) -> &[Request]
+        ensures { result.now ≡ (lone_of self.now).state.waiting }
+    {
+        self.state.waiting()
+    }
+
+    /// The entry for a page, where there is such a page.
     pub fn entry(&self, page: u32) -> Option<&PageEntry>
-        ensures { MatchOption result (IsTrue (not (nat_lt page self.now.size.pages))) (λ e. IsTrue (nat_lt page self.now.size.pages) × (e.now ≡ entry_at (lone_of self.now).table page)) }
+        ensures { MatchOption result
+            ((lone_of self.now).pages ≤ page)
+            (λ e. (page < (lone_of self.now).pages) × (e.now ≡ entry_at (lone_of self.now).table page)) }
     {
         if !self.size.has_page(page) {
             return None;

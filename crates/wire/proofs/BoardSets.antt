@@ -1,9 +1,9 @@
 -- Laws of sets of boards.
-use Rattle.std.proofs.Common.{◌≡◌, ℕ, zero, suc, ◌-◌, ◌<◌, ◌≤◌, Bool, true, false, not, ◌&&◌, ◌||◌, List, [], ◌∷◌, length, take, drop, set, replicate, get_or, refl, ap, ◌∙◌, sym, arith}
-use Rattle.std.proofs.lemmas.Bool.{true≢false, and_parts, and_from, or_right}
+use Rattle.std.proofs.Common.{◌≡◌, ℕ, zero, suc, ◌-◌, ◌<◌, ◌≤◌, Bool, true, false, not, ◌||◌, List, [], ◌∷◌, length, take, drop, set, replicate, get_or, refl, ap, ◌∙◌, sym, arith}
+use Rattle.std.proofs.lemmas.Bool.{true≢false, and_parts, and_from}
 use Rattle.std.proofs.lemmas.List.{take_all, length-drop, get_or-set_other}
 use Rattle.std.specs.List.{list_any, list_all, range_with_len}
-use Rattle.wire.specs.BoardSets.{none_of, has, is_empty, is_below, is_part, no_boards, with_member, without_member}
+use Rattle.wire.specs.BoardSets.{none_of, has, is_below, is_part, no_boards, with_member, without_member}
 use Rattle.wire.specs.declared.board_set.BoardSet.{BoardSet}
 
 -- it is where no test for a member is met

@@ -1,5 +1,5 @@
 -- Questions asked one list after another.
-use Rattle.std.proofs.Common.{◌≡◌, ℕ, Bool, true, false, List, [], ◌∷◌, ◌++◌, Some, None, Ok, Err, Option, Result, refl, ap, ◌∙◌, sym}
+use Rattle.std.proofs.Common.{◌≡◌, ℕ, Bool, true, false, List, [], ◌∷◌, ◌++◌, Some, None, Ok, Err, Result, refl, ap, ◌∙◌, sym}
 use Rattle.wire.specs.Questions.{first_no, refusal}
 use Rattle.wire.specs.Faults.{number}
 use Rattle.wire.specs.declared.fault.Fault.{Fault}

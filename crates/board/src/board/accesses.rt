@@ -5,6 +5,7 @@ ghost use Rattle.board.specs.Outboxes.{posts};
 ghost use Rattle.board.specs.Posts.{own_request};
 
 use super::Board;
+use crate::address::{page_of, place_of};
 use crate::answer::AccessAnswer;
 use crate::entry::{Access, PageEntry};
 use crate::outbox::Outbox;
@@ -24,11 +25,11 @@ impl Board {
                     address,
                     deferred: None,
                 });
-                self.ask(AccessKind::Load, address / 16, entry.hint, out);
+                self.ask(AccessKind::Load, page_of(address), entry.hint, out);
                 AccessAnswer::Opened
             }
             Access::Read | Access::Write => AccessAnswer::Answered {
-                word: entry.words[(address % 16) as usize],
+                word: entry.words[place_of(address)],
             },
         }
     }
@@ -46,12 +47,12 @@ impl Board {
     {
         match entry.access {
             Access::Write => put(address, word, entry),
-            Access::None | Access::Read if entry.hint == self.number => self.store_as_owner(
-                address, word, entry, out,
-            ),
+            Access::None | Access::Read if entry.hint == self.number => {
+                self.store_as_owner(address, word, entry, out)
+            }
             Access::None | Access::Read => {
                 self.stage = Stage::StoreAsked(OpenStore { address, word });
-                self.ask(AccessKind::Store, address / 16, entry.hint, out);
+                self.ask(AccessKind::Store, page_of(address), entry.hint, out);
                 AccessAnswer::Opened
             }
         }
@@ -76,7 +77,7 @@ impl Board {
             awaited: entry.copies,
             hops: 0,
         });
-        self.invalidate(address / 16, entry.copies, out);
+        self.invalidate(page_of(address), entry.copies, out);
         AccessAnswer::Opened
     }
 
@@ -102,6 +103,6 @@ fn put(address: u32, word: u32, entry: &mut PageEntry) -> AccessAnswer
     ensures answer { result ≡ AccessAnswer.Answered word }
 {
     entry.access = Access::Write;
-    entry.words[(address % 16) as usize] = word;
+    entry.words[place_of(address)] = word;
     AccessAnswer::Answered { word }
 }

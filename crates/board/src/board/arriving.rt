@@ -40,21 +40,23 @@ impl Board {
         ensures { Steps (arrive (state_of self.old) entry.old message.now) (state_of self.new) entry.new (posts out.new) result }
     {
         match (self.stage, message.kind) {
-            (stage, Kind::ReadRequest | Kind::WriteRequest) if stage.is_on(message.page) =>
-                self.wait(message),
+            (stage, Kind::ReadRequest | Kind::WriteRequest) if stage.is_on(message.page) => {
+                self.wait(message);
+            }
             (_, Kind::ReadRequest | Kind::WriteRequest) => self.serve_message(message, entry, out),
-            (Stage::LoadAsked(load), Kind::Copy) => return self.finish_load(
-                load, message, entry, out,
-            ),
-            (Stage::StoreAsked(store), Kind::Grant) => return self.take_ownership(
-                store, message, entry, out,
-            ),
-            (Stage::LoadAsked(load), Kind::Invalidate) if self.stage.is_on(message.page) =>
-                self.defer(load, message.from),
+            (Stage::LoadAsked(load), Kind::Copy) => {
+                return self.finish_load(load, message, entry, out);
+            }
+            (Stage::StoreAsked(store), Kind::Grant) => {
+                return self.take_ownership(store, message, entry, out);
+            }
+            (Stage::Clearing(clearing), Kind::Acknowledgement) => {
+                return self.count_acknowledgement(clearing, message, entry, out);
+            }
+            (Stage::LoadAsked(load), Kind::Invalidate) if self.stage.is_on(message.page) => {
+                self.defer(load, message.from);
+            }
             (_, Kind::Invalidate) => self.give_back(message.page, message.from, entry, out),
-            (Stage::Clearing(clearing), Kind::Acknowledgement) => return self.count_acknowledgement(
-                clearing, message, entry, out,
-            ),
             (_, Kind::Copy | Kind::Grant | Kind::Acknowledgement) => {}
         }
         None

@@ -3,6 +3,7 @@ ghost use Rattle.board.specs.Boards.{state_of};
 ghost use Rattle.board.specs.Expected.{expected, new_asker};
 
 use super::Board;
+use crate::address::page_of;
 use crate::entry::PageEntry;
 use crate::stage::Stage;
 use wire::message::{Kind, Message};
@@ -15,14 +16,14 @@ impl Board {
         let is_owned = entry.hint == self.number;
         match (self.stage, message.kind) {
             (_, Kind::ReadRequest | Kind::WriteRequest) => self.has_new_asker(message),
-            (Stage::LoadAsked(load), Kind::Copy) => load.address / 16 == message.page,
-            (Stage::StoreAsked(store), Kind::Grant) => store.address / 16 == message.page,
+            (Stage::LoadAsked(load), Kind::Copy) => page_of(load.address) == message.page,
+            (Stage::StoreAsked(store), Kind::Grant) => page_of(store.address) == message.page,
             (Stage::LoadAsked(load), Kind::Invalidate) => {
-                !is_owned && !(load.address / 16 == message.page && load.deferred.is_some())
+                !is_owned && !(page_of(load.address) == message.page && load.deferred.is_some())
             }
             (_, Kind::Invalidate) => !is_owned,
             (Stage::Clearing(clearing), Kind::Acknowledgement) => {
-                clearing.store.address / 16 == message.page
+                page_of(clearing.store.address) == message.page
                     && clearing.awaited.contains(message.from)
             }
             (_, Kind::Copy | Kind::Grant | Kind::Acknowledgement) => false,

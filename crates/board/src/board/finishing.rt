@@ -4,6 +4,7 @@ ghost use Rattle.board.specs.Outboxes.{posts};
 ghost use Rattle.board.specs.Steps.{Steps, finish_load, finish_store, take_ownership, count_acknowledgement};
 
 use super::Board;
+use crate::address::place_of;
 use crate::answer::Finished;
 use crate::entry::{Access, PageEntry};
 use crate::outbox::Outbox;
@@ -34,7 +35,7 @@ impl Board {
             board: self.number,
             kind: AccessKind::Load,
             address: load.address,
-            word: message.words[(load.address % 16) as usize],
+            word: message.words[place_of(load.address)],
             hops: message.hops,
         })
     }
@@ -103,7 +104,7 @@ impl Board {
     {
         entry.access = Access::Write;
         entry.copies = BoardSet::EMPTY;
-        entry.words[(store.address % 16) as usize] = store.word;
+        entry.words[place_of(store.address)] = store.word;
         self.stage = Stage::Idle;
         self.serve_waiting(page, entry, out);
         Some(Finished {

@@ -9,6 +9,7 @@ ghost use Rattle.lone.specs.PostLaws.{GoodPosts};
 ghost use Rattle.lone.specs.LoneQuestions.{access_questions};
 
 use super::LoneBoard;
+use board::address::page_of;
 use board::answer::AccessAnswer;
 use board::outbox::{OUTBOX_ROOM, Outbox};
 use wire::fault::Fault;
@@ -102,8 +103,7 @@ impl LoneBoard {
         ensures done { Is (load_at (lone_of self.old) address) (lone_of self.new) (posts out.new) result }
         ensures posts { GoodPosts (load_at (lone_of self.old) address).posts }
     {
-        self.state
-            .load(address, &self.table.entries[(address / 16) as usize], out)
+        self.state.load(address, &self.table.entries[page_of(address) as usize], out)
     }
 
     fn open_store(&mut self, address: u32, word: u32, out: &mut Outbox) -> AccessAnswer
@@ -115,7 +115,7 @@ impl LoneBoard {
         self.state.store(
             address,
             word,
-            &mut self.table.entries[(address / 16) as usize],
+            &mut self.table.entries[page_of(address) as usize],
             out,
         )
     }

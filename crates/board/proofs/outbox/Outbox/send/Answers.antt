@@ -1,4 +1,4 @@
-use Rattle.std.proofs.Common.{rules, ◌≡◌, ◌+◌, ◌<◌, ◌++◌, [], ◌∷◌, take, length, sym, ◌∙◌, ap, subst, length-take-le, arith}
+use Rattle.std.proofs.Common.{take, sym, subst, length-take-le, arith}
 use Rattle.std.proofs.lemmas.List.{take_more}
 use Rattle.wire.specs.Links.{Sent, InTurn}
 use Rattle.wire.proofs.Sending.{not_refused, one_more_sent, one_more_in_turn}

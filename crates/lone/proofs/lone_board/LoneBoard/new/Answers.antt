@@ -1,4 +1,4 @@
-use Rattle.std.proofs.Common.{rules, refl, arith}
+use Rattle.std.proofs.Common.{rules}
 use Rattle.lone.proofs.LoneForms.{start_form, start_same}
 use Rattle.lone.proofs.lone_board.LoneBoard.new.Goals as goal
 

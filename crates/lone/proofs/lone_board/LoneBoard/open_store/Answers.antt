@@ -1,16 +1,15 @@
 use Rattle.std.proofs.Common.{rules, arith}
 use Rattle.std.proofs.lemmas.List.{length-set}
-use Rattle.board.specs.Addresses.{page_of}
 use Rattle.lone.specs.LoneBoards.{lone_of}
 use Rattle.lone.proofs.CallPosts.{store_posts}
-use Rattle.lone.proofs.LoneForms.{stored_kept, same_form}
+use Rattle.lone.proofs.LoneForms.{stored_at, same_form}
 use Rattle.lone.proofs.lone_board.LoneBoard.open_store.Goals as goal
 
 pub invariant_of-self : goal.invariant_of-self
 invariant_of-self c =
     let b = c.args.self.now in
-    let kept = stored_kept (lone_of b) b.rows (omega (arith, b.size.pages_bounded)) b.form c.args.address c.requires.accepted c.args.word in
-    record { rows = search (rules, length-set); form = same_form (lone_of b) (page_of c.args.address) _ _ _ _ c.store.ensures.0 c.store.ensures.1 kept }
+    let kept = stored_at (lone_of b) b.rows (omega (arith, b.size.pages_bounded)) b.form c.args.address c.requires.accepted c.args.word c.page_of.result c.page_of.ensures in
+    record { rows = search (rules, length-set); form = same_form (lone_of b) c.page_of.result _ _ _ _ c.store.ensures.0 c.store.ensures.1 kept }
 
 pub returns-clause-posts : goal.returns-clause-posts
 returns-clause-posts c =

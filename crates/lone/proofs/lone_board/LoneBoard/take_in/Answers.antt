@@ -1,4 +1,4 @@
-use Rattle.std.proofs.Common.{rules, refl, arith}
+use Rattle.std.proofs.Common.{rules, arith}
 use Rattle.std.proofs.lemmas.List.{length-set}
 use Rattle.lone.specs.LoneBoards.{lone_of}
 use Rattle.lone.proofs.ArrivalForms.{arrived_kept, room_to_wait}
