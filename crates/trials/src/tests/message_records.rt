@@ -1,4 +1,4 @@
-use super::refusal;
+use super::{bare, refusal};
 use records::read::read_record;
 use records::write::write_record;
 use std::process::Abort;
@@ -55,19 +55,6 @@ const ACKNOWLEDGEMENT: [u8; 80] = [
     0, 0, 0, 0, 0, 0, 0, 0, 0, 0, 0, 0, 0, 0, 0, 0, //
     0, 0, 0, 0, 0, 0, 0, 0, 0, 0, 0, 0, 0, 0, 0, 0,
 ];
-
-/// A message without words or a copy set.
-fn bare(kind: Kind, page: u32, from: u8, to: u8, asker: u8, hops: u8) -> Message {
-    Message {
-        kind,
-        page,
-        from,
-        to,
-        asker,
-        hops,
-        ..Message::BLANK
-    }
-}
 
 fn copy() -> Message {
     let mut message = bare(Kind::Copy, 0, 9, 4, 4, 3);
