@@ -22,10 +22,10 @@ fn answered(word: u32) -> AccessAnswer {
 fn as_they_start(rt: HostRuntime) -> Result<(), Fail> {
     let owner = LoneBoard::new(0, 4, 2)?;
     let other = LoneBoard::new(3, 4, 2)?;
-    assert_eq!(rt; owner.state().number(), 0);
-    assert_eq!(rt; other.state().number(), 3);
+    assert_eq!(rt; owner.number(), 0);
+    assert_eq!(rt; other.number(), 3);
     expect_stage(&rt, &other, Stage::Idle);
-    assert_eq!(rt; other.state().waiting().len(), 0);
+    assert_eq!(rt; other.waiting().len(), 0);
     for page in 0..2 {
         expect_entry(&rt, &owner, page, holds(Access::Write, 0, 0, [0; 16]));
         expect_entry(&rt, &other, page, holds(Access::None, 0, 0, [0; 16]));

@@ -79,7 +79,7 @@ fn crowded_load<L: Link>(link: &mut L) -> Result<LoneBoard, Fault> {
 fn sixteen_posts(rt: HostRuntime) -> Result<(), Fail> {
     let mut link = Queue::new(16)?;
     let mut board = crowded_load(&mut link)?;
-    assert_eq!(rt; board.state().waiting().len(), 15);
+    assert_eq!(rt; board.waiting().len(), 15);
     assert_eq!(rt; link.count(), 0);
     expect_arrival(
         &rt,
@@ -121,7 +121,7 @@ fn no_room_for_a_sixteenth(rt: HostRuntime) -> Result<(), Fail> {
         16,
     );
     expect_number(&rt, board.arrive(&invalidate(0, 9, 5), &mut link), 16);
-    assert_eq!(rt; board.state().waiting().len(), 15);
+    assert_eq!(rt; board.waiting().len(), 15);
     assert_eq!(rt; link.count(), 0);
     // one message on the link leaves too little room for the copy
     link.post(Message::BLANK)?;

@@ -149,7 +149,7 @@ pub(super) fn expect_entry(rt: &impl Abort, board: &LoneBoard, page: u32, held: 
 }
 
 pub(super) fn expect_stage(rt: &impl Abort, board: &LoneBoard, stage: Stage) {
-    assert_eq!(rt; board.state().stage(), stage);
+    assert_eq!(rt; board.stage(), stage);
 }
 
 /// What a load or a store answers.
@@ -181,5 +181,5 @@ pub(super) fn expect_posts<L: Link>(rt: &impl Abort, link: &mut L, posts: &[Mess
 
 /// The requests that wait at a board are these, in this order.
 pub(super) fn expect_waiting(rt: &impl Abort, board: &LoneBoard, requests: &[Request]) {
-    assert!(rt; board.state().waiting() == requests);
+    assert!(rt; board.waiting() == requests);
 }

@@ -27,9 +27,9 @@ struct Seen {
 
 fn snapshot(board: &LoneBoard) -> Seen {
     Seen {
-        number: board.state().number(),
-        stage: board.state().stage(),
-        waiting: from_fn(|place| board.state().waiting().get(place).copied()),
+        number: board.number(),
+        stage: board.stage(),
+        waiting: from_fn(|place| board.waiting().get(place).copied()),
         entries: from_fn(|page| entry(board, page as u32)),
     }
 }

@@ -147,8 +147,8 @@ fn expect_to_wait<L: Link>(
     link: &mut L,
     served: Message,
 ) -> Result<(), Fail> {
-    let me = board.state().number();
-    let stage = board.state().stage();
+    let me = board.number();
+    let stage = board.stage();
     let before = entry(board, 1);
     expect_arrival(
         rt,
