@@ -9,23 +9,11 @@ use crate::request::Request;
 use wire::board_set::BoardSet;
 use wire::message::{Kind, Message};
 
-/// Ownership that has left a page table. It is posted or put back: what letting it go asks for, nobody has.
+/// Ownership that has left a page table. It is posted or put back: it has no `Drop`, so nothing else can become of it.
 pub struct GrantInHand {
     page: u32,
     request: Request,
     entry: PageEntry,
-}
-
-impl Drop for GrantInHand {
-    fn drop(self)
-        requires { ⊥ }
-    {
-        let GrantInHand {
-            page: _,
-            request: _,
-            entry: _,
-        } = self;
-    }
 }
 
 impl GrantInHand {

@@ -51,8 +51,9 @@ impl Board {
         ensures posted { length (posts out.old) < outbox_room → Serves (granted (state_of self.now).number page entry.old request) (posts out.old) entry.new (posts out.new) }
         ensures put_back { outbox_room ≤ length (posts out.old) → (entry.new ≡ entry.old) × (out.new ≡ out.old) }
     {
-        if let Err(grant) = GrantInHand::take(page, entry, request).post(self.number, out) {
-            grant.put_back(entry);
+        match GrantInHand::take(page, entry, request).post(self.number, out) {
+            Ok(()) => {}
+            Err(grant) => grant.put_back(entry),
         }
     }
 
