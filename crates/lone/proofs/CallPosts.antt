@@ -1,4 +1,4 @@
--- The messages that a lone board posts in one call have their form.
+-- The messages that a lone board posts in one call.
 use Rattle.std.proofs.Common.{◌≡◌, ℕ, ◌*◌, ◌<◌, ◌≤◌, nat_lt, Bool, true, false, not, cond, ◌&&◌, ◌++◌, Some, None, Option, length, refl, ap, eqb, ◌==◌, arith}
 use Rattle.std.proofs.lemmas.Bool.{and_parts, and_from, lt-ltb, ltb-true, leb-true, eqb-false, eq-eqb}
 use Rattle.std.specs.List.{AllByRecursion}
@@ -27,124 +27,124 @@ use Rattle.lone.specs.Calls.{load_at, store_at, arrive_at}
 use Rattle.lone.specs.Forms.{reads, deferred_form, lone_form}
 use Rattle.lone.specs.LoneQuestions.{access_questions, arrival_questions}
 use Rattle.lone.specs.Lones.{Lone}
-use Rattle.lone.specs.PostLaws.{HasForm}
+use Rattle.lone.specs.PostLaws.{GoodPost}
 use Rattle.lone.specs.Tables.{entry_at}
 use Rattle.lone.proofs.Accepting.{access_told, Accepted}
 use Rattle.lone.proofs.EntryForms.{EntryTold, no_access, store_kept}
 use Rattle.lone.proofs.LoneForms.{lone_told}
-use Rattle.lone.proofs.ArrivalForms.{is, narrow, entry, waiting, at, copied_told, granted, clearing_owns}
-use Rattle.lone.proofs.PostForms.{own_formed, acknowledgement_formed, served_formed, all_formed, invalidates_formed, both_formed}
+use Rattle.lone.proofs.ArrivalForms.{is, entry, waiting, at, copied_told, granted, clearing_owns}
+use Rattle.lone.proofs.PostForms.{own_good, acknowledgement_good, served_good, all_good, invalidates_good, both_good}
 
 module _ (l : Lone) (rows : length l.table ≡ 16) (boards : l.boards ≤ 16) (pages : l.pages ≤ 16) (form : lone_form l ≡ true) where
   mine : l.state.number < l.boards
   mine = (lone_told l rows form).number
 
   module _ (address : ℕ) (ok : first_no (access_questions l address) ≡ None) where
-    inside : page_of address < 16
-    inside = let h = ltb-true address (16 * l.pages) (access_told l address ok).0 in omega (arith, h, pages)
+    inside : page_of address < l.pages
+    inside = let h = ltb-true address (16 * l.pages) (access_told l address ok).0 in omega (arith, h)
 
     here : EntryTold l.boards l.state.number (entry_at l.table (page_of address))
-    here = (lone_told l rows form).entries (page_of address) inside
+    here = (lone_told l rows form).entries (page_of address) (omega (arith, inside, pages))
 
-    load_formed : (a : Access) → (entry_at l.table (page_of address)).access ≡ a → AllByRecursion HasForm (load_with a l.state (entry_at l.table (page_of address)) address).posts
-    load_formed access.None e =
+    load_good : (a : Access) → (entry_at l.table (page_of address)).access ≡ a → AllByRecursion (GoodPost l.boards l.pages l.state.number) (load_with a l.state (entry_at l.table (page_of address)) address).posts
+    load_good access.None e =
         let e0 = entry_at l.table (page_of address) in (
-          own_formed l.boards l.state.number (page_of address) boards mine inside Load e0.hint here.hint
+          own_good l.boards l.pages l.state.number (page_of address) boards pages mine inside Load e0.hint here.hint
               (eqb-false e0.hint l.state.number (no_access l.boards l.state.number e0 (ap reads e) here)),
           tt,
         )
-    load_formed access.Read e = tt
-    load_formed access.Write e = tt
+    load_good access.Read e = tt
+    load_good access.Write e = tt
 
-    pub load_posts : AllByRecursion HasForm (load_at l address).posts
-    load_posts = load_formed (entry_at l.table (page_of address)).access refl
+    pub load_posts : AllByRecursion (GoodPost l.boards l.pages l.state.number) (load_at l address).posts
+    load_posts = load_good (entry_at l.table (page_of address)).access refl
 
-    owner_formed : (word : ℕ) (b : Bool) → let e = entry_at l.table (page_of address) in AllByRecursion HasForm (cond b (put l.state e address word) (clearing_store l.state e address word)).posts
-    owner_formed word true = tt
-    owner_formed word false = invalidates_formed l.boards l.state.number (page_of address) boards mine inside (entry_at l.table (page_of address)).copies here.copies here.apart
+    owner_good : (word : ℕ) (b : Bool) → let e = entry_at l.table (page_of address) in AllByRecursion (GoodPost l.boards l.pages l.state.number) (cond b (put l.state e address word) (clearing_store l.state e address word)).posts
+    owner_good word true = tt
+    owner_good word false = invalidates_good l.boards l.pages l.state.number (page_of address) boards pages mine inside (entry_at l.table (page_of address)).copies here.copies here.apart
 
     not_writing : (word : ℕ) (b : Bool) → owns l.state.number (entry_at l.table (page_of address)) ≡ b →
-        let e = entry_at l.table (page_of address) in AllByRecursion HasForm (cond b (owner_store l.state e address word) (asking_store l.state e address word)).posts
-    not_writing word true o = owner_formed word (is_empty (entry_at l.table (page_of address)).copies)
+        let e = entry_at l.table (page_of address) in AllByRecursion (GoodPost l.boards l.pages l.state.number) (cond b (owner_store l.state e address word) (asking_store l.state e address word)).posts
+    not_writing word true o = owner_good word (is_empty (entry_at l.table (page_of address)).copies)
     not_writing word false o =
         let e = entry_at l.table (page_of address) in
-        (own_formed l.boards l.state.number (page_of address) boards mine inside Store e.hint here.hint (eqb-false e.hint l.state.number o), tt)
+        (own_good l.boards l.pages l.state.number (page_of address) boards pages mine inside Store e.hint here.hint (eqb-false e.hint l.state.number o), tt)
 
-    store_formed : (word : ℕ) (a : Access) → AllByRecursion HasForm (store_with a l.state (entry_at l.table (page_of address)) address word).posts
-    store_formed word access.Write = tt
-    store_formed word access.None = not_writing word (owns l.state.number (entry_at l.table (page_of address))) refl
-    store_formed word access.Read = not_writing word (owns l.state.number (entry_at l.table (page_of address))) refl
+    store_good : (word : ℕ) (a : Access) → AllByRecursion (GoodPost l.boards l.pages l.state.number) (store_with a l.state (entry_at l.table (page_of address)) address word).posts
+    store_good word access.Write = tt
+    store_good word access.None = not_writing word (owns l.state.number (entry_at l.table (page_of address))) refl
+    store_good word access.Read = not_writing word (owns l.state.number (entry_at l.table (page_of address))) refl
 
-    pub store_posts : (word : ℕ) → AllByRecursion HasForm (store_at l address word).posts
-    store_posts word = store_formed word (entry_at l.table (page_of address)).access
+    pub store_posts : (word : ℕ) → AllByRecursion (GoodPost l.boards l.pages l.state.number) (store_at l address word).posts
+    store_posts word = store_good word (entry_at l.table (page_of address)).access
 
   module _ (m : Message) (ok : first_no (arrival_questions l m) ≡ None) where
     it : Accepted l m
     it = is l m rows pages form ok
 
-    paged : m.page < 16
-    paged = narrow l m rows pages form ok
+    paged : m.page < l.pages
+    paged = it.page
 
     told : EntryTold l.boards l.state.number (entry_at l.table m.page)
     told = entry l m rows pages form ok
 
-    wait_formed : (e : PageEntry) → EntryTold l.boards l.state.number e → AllByRecursion HasForm (posts_for l.state.number m.page e l.state.waiting)
-    wait_formed e t = all_formed l.boards l.state.number m.page boards mine paged e l.state.waiting (waiting l m rows pages form ok) t
+    wait_good : (e : PageEntry) → EntryTold l.boards l.state.number e → AllByRecursion (GoodPost l.boards l.pages l.state.number) (posts_for l.state.number m.page e l.state.waiting)
+    wait_good e t = all_good l.boards l.pages l.state.number m.page boards pages mine paged e l.state.waiting (waiting l m rows pages form ok) t
 
-    request_formed : (b : Bool) → new_asker l.state m ≡ true → AllByRecursion HasForm (cond b (join l.state (entry_at l.table m.page) m) (serve l.state (entry_at l.table m.page) m)).posts
-    request_formed true n = tt
-    request_formed false n =
+    request_good : (b : Bool) → new_asker l.state m ≡ true → AllByRecursion (GoodPost l.boards l.pages l.state.number) (cond b (join l.state (entry_at l.table m.page) m) (serve l.state (entry_at l.table m.page) m)).posts
+    request_good true n = tt
+    request_good false n =
         let a = and_parts (not (eqb m.asker l.state.number)) (not (waits m.asker l.state.waiting)) n in (
-          served_formed l.boards l.state.number m.page boards mine paged (entry_at l.table m.page) (request_in m)
+          served_good l.boards l.pages l.state.number m.page boards pages mine paged (entry_at l.table m.page) (request_in m)
               (and_from (nat_lt m.asker l.boards) (not (eqb m.asker l.state.number)) (lt-ltb m.asker l.boards it.asker) a.0) (leb-true m.hops 14 it.hops) told,
           tt,
         )
 
-    back_formed : AllByRecursion HasForm (give_back l.state (entry_at l.table m.page) m).posts
-    back_formed = (acknowledgement_formed l.boards l.state.number m.page boards mine paged m.from it.from, tt)
+    back_good : AllByRecursion (GoodPost l.boards l.pages l.state.number) (give_back l.state (entry_at l.table m.page) m).posts
+    back_good = (acknowledgement_good l.boards l.pages l.state.number m.page boards pages mine paged m.from it.from, tt)
 
-    defer_formed : (load : OpenLoad) (b : Bool) → AllByRecursion HasForm (cond b (defer load l.state (entry_at l.table m.page) m) (give_back l.state (entry_at l.table m.page) m)).posts
-    defer_formed load true = tt
-    defer_formed load false = back_formed
+    defer_good : (load : OpenLoad) (b : Bool) → AllByRecursion (GoodPost l.boards l.pages l.state.number) (cond b (defer load l.state (entry_at l.table m.page) m) (give_back l.state (entry_at l.table m.page) m)).posts
+    defer_good load true = tt
+    defer_good load false = back_good
 
-    deferred_formed : (deferred : Option ℕ) → deferred_form l.boards l.state.number deferred ≡ true → AllByRecursion HasForm (posts_deferred l.state.number m.page deferred)
-    deferred_formed None d = tt
-    deferred_formed (Some board) d = (acknowledgement_formed l.boards l.state.number m.page boards mine paged board d, tt)
+    deferred_good : (deferred : Option ℕ) → deferred_form l.boards l.state.number deferred ≡ true → AllByRecursion (GoodPost l.boards l.pages l.state.number) (posts_deferred l.state.number m.page deferred)
+    deferred_good None d = tt
+    deferred_good (Some board) d = (acknowledgement_good l.boards l.pages l.state.number m.page boards pages mine paged board d, tt)
 
-    copy_formed : (load : OpenLoad) → l.state.stage ≡ LoadAsked load → (page_of load.address == m.page) ≡ true →
-        AllByRecursion HasForm (posts_deferred l.state.number m.page load.deferred ++ posts_for l.state.number m.page (entry_deferred load.deferred (with_copy (entry_at l.table m.page) m)) l.state.waiting)
-    copy_formed load same o =
+    copy_good : (load : OpenLoad) → l.state.stage ≡ LoadAsked load → (page_of load.address == m.page) ≡ true →
+        AllByRecursion (GoodPost l.boards l.pages l.state.number) (posts_deferred l.state.number m.page load.deferred ++ posts_for l.state.number m.page (entry_deferred load.deferred (with_copy (entry_at l.table m.page) m)) l.state.waiting)
+    copy_good load same o =
         let stage = at l m rows pages form ok (LoadAsked load) same in
         let d = and_parts (nat_lt (page_of load.address) l.pages && not (reads (entry_at l.table (page_of load.address)).access)) (deferred_form l.boards l.state.number load.deferred) stage in
-        both_formed (posts_deferred l.state.number m.page load.deferred) _ (deferred_formed load.deferred d.1) (wait_formed _ (copied_told l m rows pages form ok load same o))
+        both_good (GoodPost l.boards l.pages l.state.number) (posts_deferred l.state.number m.page load.deferred) _ (deferred_good load.deferred d.1) (wait_good _ (copied_told l m rows pages form ok load same o))
 
-    grant_formed : (store : OpenStore) (b : Bool) → m.kind ≡ Grant →
-        let e = with_grant l.state.number (entry_at l.table m.page) m in AllByRecursion HasForm (cond b (finish_store store m.hops l.state m.page e) (clear store l.state e m)).posts
-    grant_formed store true kind =
+    grant_good : (store : OpenStore) (b : Bool) → m.kind ≡ Grant →
+        let e = with_grant l.state.number (entry_at l.table m.page) m in AllByRecursion (GoodPost l.boards l.pages l.state.number) (cond b (finish_store store m.hops l.state m.page e) (clear store l.state e m)).posts
+    grant_good store true kind =
         let e = with_grant l.state.number (entry_at l.table m.page) m in
-        wait_formed (with_store e store) (store_kept l.boards l.state.number e store (eq-eqb l.state.number l.state.number refl) (granted l m rows pages form ok kind))
-    grant_formed store false kind =
+        wait_good (with_store e store) (store_kept l.boards l.state.number e store (eq-eqb l.state.number l.state.number refl) (granted l m rows pages form ok kind))
+    grant_good store false kind =
         let t = granted l m rows pages form ok kind in
-        invalidates_formed l.boards l.state.number m.page boards mine paged m.copies t.copies t.apart
+        invalidates_good l.boards l.pages l.state.number m.page boards pages mine paged m.copies t.copies t.apart
 
-    acknowledgement_counted : (clearing : ClearingStore) (b : Bool) → l.state.stage ≡ Clearing clearing → (page_of clearing.store.address == m.page) ≡ true →
-        AllByRecursion HasForm (cond b (finish_store clearing.store clearing.hops l.state m.page (entry_at l.table m.page))
+    counted_good : (clearing : ClearingStore) (b : Bool) → l.state.stage ≡ Clearing clearing → (page_of clearing.store.address == m.page) ≡ true →
+        AllByRecursion (GoodPost l.boards l.pages l.state.number) (cond b (finish_store clearing.store clearing.hops l.state m.page (entry_at l.table m.page))
         (still (at_stage l.state (Clearing (record clearing { awaited = without_member clearing.awaited m.from }))) (entry_at l.table m.page))).posts
-    acknowledgement_counted clearing true same o =
+    counted_good clearing true same o =
         let e = entry_at l.table m.page in
-        wait_formed (with_store e clearing.store) (store_kept l.boards l.state.number e clearing.store (clearing_owns l m rows pages form ok clearing same o) told)
-    acknowledgement_counted clearing false same o = tt
+        wait_good (with_store e clearing.store) (store_kept l.boards l.state.number e clearing.store (clearing_owns l m rows pages form ok clearing same o) told)
+    counted_good clearing false same o = tt
 
-    arrival_formed : (stage : Stage) (kind : Kind) → l.state.stage ≡ stage → m.kind ≡ kind → expects stage kind l.state (entry_at l.table m.page) m ≡ true → AllByRecursion HasForm (arrives stage kind l.state (entry_at l.table m.page) m).posts
-    arrival_formed stage ReadRequest s k x = request_formed (is_on stage m.page) x
-    arrival_formed stage WriteRequest s k x = request_formed (is_on stage m.page) x
-    arrival_formed (LoadAsked load) Copy s k x = copy_formed load s x
-    arrival_formed (StoreAsked store) Grant s k x = grant_formed store (is_empty m.copies) k
-    arrival_formed (LoadAsked load) Invalidate s k x = defer_formed load (page_of load.address == m.page)
-    arrival_formed _ Invalidate s k x = back_formed
-    arrival_formed (Clearing clearing) Acknowledgement s k x =
-        acknowledgement_counted clearing (is_empty (without_member clearing.awaited m.from)) s (and_parts (page_of clearing.store.address == m.page) (has clearing.awaited m.from) x).0
-    arrival_formed _ _ s k x = tt
+    arrival_good : (stage : Stage) (kind : Kind) → l.state.stage ≡ stage → m.kind ≡ kind → expects stage kind l.state (entry_at l.table m.page) m ≡ true → AllByRecursion (GoodPost l.boards l.pages l.state.number) (arrives stage kind l.state (entry_at l.table m.page) m).posts
+    arrival_good stage ReadRequest s k x = request_good (is_on stage m.page) x
+    arrival_good stage WriteRequest s k x = request_good (is_on stage m.page) x
+    arrival_good (LoadAsked load) Copy s k x = copy_good load s x
+    arrival_good (StoreAsked store) Grant s k x = grant_good store (is_empty m.copies) k
+    arrival_good (LoadAsked load) Invalidate s k x = defer_good load (page_of load.address == m.page)
+    arrival_good _ Invalidate s k x = back_good
+    arrival_good (Clearing clearing) Acknowledgement s k x =
+        counted_good clearing (is_empty (without_member clearing.awaited m.from)) s (and_parts (page_of clearing.store.address == m.page) (has clearing.awaited m.from) x).0
+    arrival_good _ _ s k x = tt
 
-    pub arrival_posts : AllByRecursion HasForm (arrive_at l m).posts
-    arrival_posts = arrival_formed l.state.stage m.kind refl refl it.expected
+    pub arrival_posts : AllByRecursion (GoodPost l.boards l.pages l.state.number) (arrive_at l m).posts
+    arrival_posts = arrival_good l.state.stage m.kind refl refl it.expected

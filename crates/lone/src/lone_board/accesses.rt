@@ -22,7 +22,7 @@ impl LoneBoard {
         ensures done { MatchResult result
             (λ answer. IsOver L.Link.limit L.waiting L.Choice.joins (load_at (lone_of self.old) address) (lone_of self.new) answer link.old link.new)
             (λ _. (self.new ≡ self.old) × (link.new ≡ link.old)) }
-        ensures posts { IfOk result (λ _. GoodPosts (load_at (lone_of self.old) address).posts) }
+        ensures posts { IfOk result (λ _. GoodPosts (lone_of self.old) (load_at (lone_of self.old) address).posts) }
     {
         self.ask_access(address)?;
         ask_room(link, OUTBOX_ROOM)?;
@@ -43,7 +43,7 @@ impl LoneBoard {
         ensures done { MatchResult result
             (λ answer. IsOver L.Link.limit L.waiting L.Choice.joins (store_at (lone_of self.old) address word) (lone_of self.new) answer link.old link.new)
             (λ _. (self.new ≡ self.old) × (link.new ≡ link.old)) }
-        ensures posts { IfOk result (λ _. GoodPosts (store_at (lone_of self.old) address word).posts) }
+        ensures posts { IfOk result (λ _. GoodPosts (lone_of self.old) (store_at (lone_of self.old) address word).posts) }
     {
         self.ask_access(address)?;
         ask_room(link, OUTBOX_ROOM)?;
@@ -59,7 +59,7 @@ impl LoneBoard {
         ensures done { MatchResult result
             (λ answer. Is (load_at (lone_of self.old) address) (lone_of self.new) (posts out.new) answer)
             (λ _. (self.new ≡ self.old) × (out.new ≡ out.old)) }
-        ensures posts { IfOk result (λ _. GoodPosts (load_at (lone_of self.old) address).posts) }
+        ensures posts { IfOk result (λ _. GoodPosts (lone_of self.old) (load_at (lone_of self.old) address).posts) }
     {
         self.ask_access(address)?;
         out.ask_empty()?;
@@ -77,7 +77,7 @@ impl LoneBoard {
         ensures done { MatchResult result
             (λ answer. Is (store_at (lone_of self.old) address word) (lone_of self.new) (posts out.new) answer)
             (λ _. (self.new ≡ self.old) × (out.new ≡ out.old)) }
-        ensures posts { IfOk result (λ _. GoodPosts (store_at (lone_of self.old) address word).posts) }
+        ensures posts { IfOk result (λ _. GoodPosts (lone_of self.old) (store_at (lone_of self.old) address word).posts) }
     {
         self.ask_access(address)?;
         out.ask_empty()?;
@@ -101,7 +101,7 @@ impl LoneBoard {
         requires accepted { first_no (access_questions (lone_of self.old) address) ≡ None }
         requires empty { posts out.old ≡ [] }
         ensures done { Is (load_at (lone_of self.old) address) (lone_of self.new) (posts out.new) result }
-        ensures posts { GoodPosts (load_at (lone_of self.old) address).posts }
+        ensures posts { GoodPosts (lone_of self.old) (load_at (lone_of self.old) address).posts }
     {
         self.state.load(address, &self.table.entries[page_of(address) as usize], out)
     }
@@ -110,7 +110,7 @@ impl LoneBoard {
         requires accepted { first_no (access_questions (lone_of self.old) address) ≡ None }
         requires empty { posts out.old ≡ [] }
         ensures done { Is (store_at (lone_of self.old) address word) (lone_of self.new) (posts out.new) result }
-        ensures posts { GoodPosts (store_at (lone_of self.old) address word).posts }
+        ensures posts { GoodPosts (lone_of self.old) (store_at (lone_of self.old) address word).posts }
     {
         self.state.store(
             address,

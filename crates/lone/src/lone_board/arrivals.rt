@@ -23,7 +23,7 @@ impl LoneBoard {
         ensures done { MatchResult result
             (λ answer. IsOver L.Link.limit L.waiting L.Choice.joins (arrive_at (lone_of self.old) message.now) (lone_of self.new) answer link.old link.new)
             (λ _. (self.new ≡ self.old) × (link.new ≡ link.old)) }
-        ensures posts { IfOk result (λ _. GoodPosts (arrive_at (lone_of self.old) message.now).posts) }
+        ensures posts { IfOk result (λ _. GoodPosts (lone_of self.old) (arrive_at (lone_of self.old) message.now).posts) }
     {
         self.ask_arrival(message, link)?;
         let mut out = Outbox::new();
@@ -38,7 +38,7 @@ impl LoneBoard {
         ensures done { MatchResult result
             (λ answer. Is (arrive_at (lone_of self.old) message.now) (lone_of self.new) (posts out.new) answer)
             (λ _. (self.new ≡ self.old) × (out.new ≡ out.old)) }
-        ensures posts { IfOk result (λ _. GoodPosts (arrive_at (lone_of self.old) message.now).posts) }
+        ensures posts { IfOk result (λ _. GoodPosts (lone_of self.old) (arrive_at (lone_of self.old) message.now).posts) }
     {
         self.ask_arrival_step(message, out)?;
         Ok(self.take_in(message, out))
@@ -93,7 +93,7 @@ impl LoneBoard {
         requires accepted { first_no (arrival_questions (lone_of self.old) message.now) ≡ None }
         requires empty { posts out.old ≡ [] }
         ensures done { Is (arrive_at (lone_of self.old) message.now) (lone_of self.new) (posts out.new) result }
-        ensures posts { GoodPosts (arrive_at (lone_of self.old) message.now).posts }
+        ensures posts { GoodPosts (lone_of self.old) (arrive_at (lone_of self.old) message.now).posts }
     {
         self.state.arrive(message, &mut self.table.entries[message.page as usize], out)
     }

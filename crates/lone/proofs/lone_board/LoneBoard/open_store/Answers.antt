@@ -14,4 +14,4 @@ invariant_of-self c =
 pub returns-clause-posts : goal.returns-clause-posts
 returns-clause-posts c =
     let b = c.args.self.now in
-    record { few = search (rules, c.store.new.out.within); formed = store_posts (lone_of b) b.rows (omega (arith, b.size.boards_bounded)) (omega (arith, b.size.pages_bounded)) b.form c.args.address c.requires.accepted c.args.word }
+    record { few = search (rules, c.store.new.out.within); each = store_posts (lone_of b) b.rows (omega (arith, b.size.boards_bounded)) (omega (arith, b.size.pages_bounded)) b.form c.args.address c.requires.accepted c.args.word }

@@ -23,4 +23,4 @@ returns-clause-done c = let e = c.arrive.ensures in search rules
 pub returns-clause-posts : goal.returns-clause-posts
 returns-clause-posts c =
     let b = c.args.self.now in
-    record { few = search (rules, c.arrive.new.out.within); formed = arrival_posts (lone_of b) b.rows (omega (arith, b.size.boards_bounded)) (omega (arith, b.size.pages_bounded)) b.form c.args.message.now c.requires.accepted }
+    record { few = search (rules, c.arrive.new.out.within); each = arrival_posts (lone_of b) b.rows (omega (arith, b.size.boards_bounded)) (omega (arith, b.size.pages_bounded)) b.form c.args.message.now c.requires.accepted }
