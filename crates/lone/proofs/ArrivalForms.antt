@@ -28,7 +28,8 @@ use Rattle.lone.specs.Tables.{entry_at, no_entry}
 use Rattle.lone.specs.LoneQuestions.{arrival_questions}
 use Rattle.lone.specs.Calls.{arrive_at}
 use Rattle.lone.specs.Forms.{reads, another, waiting_form, deferred_form, stage_form, lone_form}
-use Rattle.lone.proofs.EntryForms.{EntryTold, another_is, served_kept, all_kept, back_kept, copy_kept, deferred_kept, store_kept, grant_kept}
+use Rattle.lone.proofs.Others.{another_is}
+use Rattle.lone.proofs.EntryForms.{EntryTold, served_kept, all_kept, back_kept, copy_kept, deferred_kept, store_kept, grant_kept}
 use Rattle.lone.proofs.WaitingForms.{joined_kept, crowd}
 use Rattle.lone.proofs.Accepting.{Accepted, accepted}
 use Rattle.lone.proofs.LoneForms.{lone_told, step_kept, entry_put, entry_other}
@@ -43,10 +44,7 @@ module _ (l : Lone) (m : Message) (rows : length l.table ≡ 16) (pages : l.page
   pub is : Accepted l m
   is = accepted l m ok
 
-  me : ℕ
-  me = l.state.number
-
-  pub narrow : m.page < 16
+  narrow : m.page < 16
   narrow = omega (arith, is.page, pages)
 
   pub entry : EntryTold l.boards l.state.number (entry_at l.table m.page)

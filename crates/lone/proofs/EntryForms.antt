@@ -1,20 +1,20 @@
 -- The form of a page's entry is kept by the rules.
-use Rattle.std.proofs.Common.{◌≡◌, ℕ, ◌<◌, nat_le, nat_lt, Bool, true, false, not, cond, ◌&&◌, ◌||◌, List, [], ◌∷◌, Some, None, Option, refl, ap, ◌∙◌, sym, eqb, arith}
+use Rattle.std.proofs.Common.{◌≡◌, ℕ, ◌<◌, nat_lt, Bool, true, false, not, cond, ◌&&◌, ◌||◌, List, [], ◌∷◌, Some, None, Option, refl, ap, ◌∙◌, sym, eqb, arith}
 use Rattle.std.proofs.lemmas.Bool.{and_parts, and_from, not_from_false, lt-ltb, ltb-true, eqb-false, eqb-true, ne_eqb, eq-eqb, true≢false}
 use Rattle.wire.specs.BoardSets.{has, is_empty, is_below}
 use Rattle.wire.specs.declared.message.Message.{Message}
 use Rattle.wire.proofs.BoardSets.{below_with, below_none, other_member, none_has}
-use Rattle.wire.specs.Messages.{most_hops}
 use Rattle.board.specs.declared.entry.PageEntry.{PageEntry}
 use Rattle.board.specs.declared.request.AccessKind.{AccessKind}
 use Rattle.board.specs.declared.request.AccessKind.TheVariants.{Load, Store}
 use Rattle.board.specs.declared.request.Request.{Request}
 use Rattle.board.specs.declared.stage.OpenStore.{OpenStore}
 use Rattle.board.specs.Entries.{start_entry}
-use Rattle.board.specs.Expected.{waits}
 use Rattle.board.specs.Openings.{written}
 use Rattle.board.specs.Serving.{owns, shared, given_up, passed_on, served_by_owner, served, entry_after}
 use Rattle.board.specs.Steps.{given_back, with_copy, entry_deferred, with_store, with_grant}
+use Rattle.lone.proofs.Others.{another_is}
+use Rattle.lone.proofs.WaitingForms.{first_told}
 use Rattle.lone.specs.Forms.{reads, writes, another, owner_form, other_form, entry_form, waiting_form}
 
 -- what the form tells
@@ -38,12 +38,6 @@ module _ (boards me : ℕ) where
       (and_from (nat_lt e.hint boards && is_below e.copies boards) (not (has e.copies me)) (and_from (nat_lt e.hint boards) (is_below e.copies boards) (lt-ltb e.hint boards t.hint) t.copies) (not_from_false (has e.copies me) t.apart))
       t.rest
 
-  -- whom another board is
-  pub another_is : (board : ℕ) → another boards me board ≡ true → (board < boards) × (eqb board me ≡ false)
-  another_is board h =
-      let a = and_parts (nat_lt board boards) (not (eqb board me)) h in
-      (ltb-true board boards a.0, grind (arith, a.1))
-
   pub owner_rest : (e : PageEntry) → EntryTold boards me e → owns me e ≡ true → owner_form e ≡ true
   owner_rest e t o = sym (ap (λ (b : Bool). cond b (owner_form e) (other_form e)) o) ∙ t.rest
 
@@ -56,17 +50,10 @@ module _ (boards me : ℕ) where
   pub as_other : (e : PageEntry) → owns me e ≡ false → other_form e ≡ true → cond (owns me e) (owner_form e) (other_form e) ≡ true
   as_other e o h = ap (λ (b : Bool). cond b (owner_form e) (other_form e)) o ∙ h
 
-  -- the first of those that wait, and the others
-  pub first_waits : (r : Request) (rs : List Request) → waiting_form boards me (r ∷ rs) ≡ true → (another boards me r.asker ≡ true) × (waiting_form boards me rs ≡ true)
-  first_waits r rs w =
-      let a = and_parts (another boards me r.asker && nat_le r.hops most_hops && not (waits r.asker rs)) (waiting_form boards me rs) w in
-      let b = and_parts (another boards me r.asker && nat_le r.hops most_hops) (not (waits r.asker rs)) a.0 in
-      ((and_parts (another boards me r.asker) (nat_le r.hops most_hops) b.0).0, a.1)
-
   module _ (page : ℕ) where
     shared_kept : (e : PageEntry) (r : Request) → another boards me r.asker ≡ true → owns me e ≡ true → EntryTold boards me e → EntryTold boards me (shared me page e r).entry
     shared_kept e r h o t =
-        let a = another_is r.asker h in
+        let a = another_is boards me r.asker h in
         record {
           hint = t.hint;
           copies = below_with e.copies r.asker boards a.0 t.copies;
@@ -76,12 +63,12 @@ module _ (boards me : ℕ) where
 
     granted_kept : (e : PageEntry) (r : Request) → another boards me r.asker ≡ true → EntryTold boards me (given_up e r)
     granted_kept e r h =
-        let a = another_is r.asker h in
+        let a = another_is boards me r.asker h in
         record { hint = a.0; copies = below_none boards; apart = none_has me; rest = as_other (given_up e r) a.1 refl }
 
     passed_kept : (e : PageEntry) (r : Request) → another boards me r.asker ≡ true → owns me e ≡ false → EntryTold boards me e → EntryTold boards me (passed_on me page e r).entry
     passed_kept e r h o t =
-        let a = another_is r.asker h in
+        let a = another_is boards me r.asker h in
         record { hint = a.0; copies = t.copies; apart = t.apart; rest = as_other (passed_on me page e r).entry a.1 (other_rest e t o) }
 
     by_owner_kept : (kind : AccessKind) (e : PageEntry) (r : Request) → another boards me r.asker ≡ true → owns me e ≡ true → EntryTold boards me e → EntryTold boards me (served_by_owner kind me page e r).entry
@@ -98,7 +85,8 @@ module _ (boards me : ℕ) where
 
     pub all_kept : (e : PageEntry) (rs : List Request) → waiting_form boards me rs ≡ true → EntryTold boards me e → EntryTold boards me (entry_after me page e rs)
     all_kept e [] w t = t
-    all_kept e (r ∷ rs) w t = all_kept (served me page e r).entry rs (first_waits r rs w).1 (served_kept e r (first_waits r rs w).0 t)
+    all_kept e (r ∷ rs) w t =
+        let f = first_told boards me r rs w in all_kept (served me page e r).entry rs f.rest (served_kept e r f.asker t)
 
   pub start_kept : me < boards → EntryTold boards me (start_entry me)
   start_kept l = record { hint = omega (arith, l); copies = below_none boards; apart = none_has me; rest = by (eqb me 0) refl }
@@ -120,7 +108,7 @@ module _ (boards me : ℕ) where
 
   pub copy_kept : (e : PageEntry) (m : Message) → reads e.access ≡ false → another boards me m.from ≡ true → EntryTold boards me e → EntryTold boards me (with_copy e m)
   copy_kept e m h a t =
-      let o = another_is m.from a in
+      let o = another_is boards me m.from a in
       record { hint = o.0; copies = t.copies; apart = t.apart; rest = as_other (with_copy e m) o.1 (and_parts (not (writes e.access)) (is_empty e.copies) (other_rest e t (no_access e h t))).1 }
 
   pub deferred_kept : (deferred : Option ℕ) (e : PageEntry) → owns me e ≡ false → EntryTold boards me e → EntryTold boards me (entry_deferred deferred e)

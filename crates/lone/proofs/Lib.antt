@@ -1,5 +1,6 @@
-pub mod EntryForms
+pub mod Others
 pub mod WaitingForms
+pub mod EntryForms
 pub mod Accepting
 pub mod LoneForms
 pub mod ArrivalForms

@@ -82,20 +82,11 @@ module _ (l : Lone) (rows : length l.table ≡ 16) (form : lone_form l ≡ true)
 
 -- Opening an access.
 module _ (l : Lone) (rows : length l.table ≡ 16) (pages : l.pages ≤ 16) (form : lone_form l ≡ true) (address : ℕ) (ok : first_no (access_questions l address) ≡ None) where
-  page : ℕ
-  page = page_of address
-
   inside : page_of address < l.pages
   inside = let h = ltb-true address (16 * l.pages) (access_told l address ok).0 in omega (arith, h)
 
-  here : PageEntry
-  here = entry_at l.table (page_of address)
-
   entry : EntryTold l.boards l.state.number (entry_at l.table (page_of address))
   entry = (lone_told l rows form).entries (page_of address) (omega (arith, inside, pages))
-
-  idle : Stage → Type 0
-  idle stage = is_idle stage ≡ true
 
   opened_kept : (stage : Stage) → stage_form (after_step l (page_of address) (at_stage l.state stage) (entry_at l.table (page_of address))) stage ≡ true →
       lone_form (after_step l (page_of address) (at_stage l.state stage) (entry_at l.table (page_of address))) ≡ true

@@ -20,7 +20,8 @@ use Rattle.board.specs.Posts.{own_request, request_on, copy_for, grant_for, inva
 use Rattle.board.specs.Serving.{owns, served, served_by_owner, passed_on, posts_for}
 use Rattle.lone.specs.Forms.{another, waiting_form}
 use Rattle.lone.specs.PostLaws.{GoodPost}
-use Rattle.lone.proofs.EntryForms.{EntryTold, another_is, served_kept}
+use Rattle.lone.proofs.Others.{another_is}
+use Rattle.lone.proofs.EntryForms.{EntryTold, served_kept}
 use Rattle.lone.proofs.WaitingForms.{first_told}
 
 a_kind : (kind : Kind) → inside 1 6 (kind_number kind) ≡ true

@@ -9,7 +9,7 @@ use Rattle.wire.specs.Messages.{most_hops}
 use Rattle.board.specs.declared.request.Request.{Request}
 use Rattle.board.specs.Expected.{waits}
 use Rattle.lone.specs.Forms.{another, waiting_form}
-use Rattle.lone.proofs.EntryForms.{another_is}
+use Rattle.lone.proofs.Others.{another_is}
 
 abbrev pub askers : List Request → List ℕ
 askers rs = map (λ r. r.asker) rs
