@@ -7,8 +7,8 @@ use Rattle.board.specs.Entries.{start_entry}
 use Rattle.board.specs.declared.entry.PageEntry.{PageEntry}
 use Rattle.board.specs.Addresses.{page_of, place_of}
 use Rattle.lone.specs.Tables.{start_table, entry_at, no_entry, word_at, with_word_at}
-use Rattle.kit.specs.Kits.{placed, table_of}
-use Rattle.kit.specs.Memory.{Placement, after_placing, InRange, PlacedWords}
+use Rattle.memory.specs.Kits.{table_of}
+use Rattle.memory.specs.Placements.{Placement, placed, after_placing, InRange, PlacedWords}
 
 -- sixteen pages of sixteen words
 record Shaped (es : List PageEntry) : Type 0 where

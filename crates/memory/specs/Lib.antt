@@ -1,0 +1,9 @@
+pub mod Kits
+pub mod Placements
+pub mod Histories
+pub mod Ledgers
+pub mod OneMemory
+pub mod Willing
+pub mod Calls
+pub mod Reached
+pub mod Promises

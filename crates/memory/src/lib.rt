@@ -1,0 +1,5 @@
+#![tactic(auto)]
+
+pub mod answer;
+pub mod call;
+pub mod laws;
