@@ -1,0 +1,130 @@
+use Rattle.std.proofs.Common.{◌≡◌, ℕ, zero, suc, ◌+◌, ◌-◌, ◌*◌, ◌<◌, ◌≤◌, Bool, true, ◌⊎◌, List, sym, refl, ap, ◌∙◌, inl, inr, arith}
+use Rattle.std.proofs.lemmas.Bool.{cases_eq, both_ways}
+use Rattle.memory.proofs.kept.Sets.{facts}
+use Rattle.memory.proofs.model.Sums.{bit}
+use Rattle.memory.proofs.model.Board.{Mail}
+use Rattle.memory.proofs.model.Page.{Mark, Journey, home, asking, queued, copied, granted, clearing, Page, awaits, busy, far, rooted, is_clearing, mark_of, mark}
+use Rattle.memory.proofs.model.Invariant.{Inv}
+use Rattle.wire.specs.Bags.{Bag, ◌&◌}
+use Rattle.memory.proofs.model.Kit.{absent, Stage, closed, Seat, Post, Kit, open_on, owner, slot, mail_of, stage_of, op_by}
+use Rattle.memory.proofs.model.Kit.{Equality}
+use Rattle.memory.proofs.kept.Cells.{taken_flies}
+use Rattle.memory.proofs.model.Weights.{weight}
+use Rattle.memory.proofs.model.History.{call_deliver, Said, Ledger, after, Does, delivers_it, delivers_none, Reached, Drains, no_more, one_more, is_open, opens_count}
+use Rattle.memory.proofs.model.Weights.{heft}
+use Rattle.memory.proofs.model.Sums.{sum_to}
+use Rattle.memory.proofs.kept.Histories.{Kept, delivered, left_of}
+use Rattle.memory.proofs.kept.Memory.{quiet_none, nothing_new, reached_kept, not_closed_busy, open_here, stage_cases}
+use Rattle.memory.proofs.kept.Summed.{sum_le}
+
+pub sum_part : (n i : ℕ) (f : ℕ → ℕ) → i < n → f i ≤ sum_to n f
+sum_part zero i f l = omega arith
+sum_part (suc n) i f l = elim (cases_eq n i) [ inl e ↦ omega (arith, ap f e) | inr e ↦ omega (arith, sum_part n i f (omega arith)) ]
+
+sum_times : (n c : ℕ) (f : ℕ → ℕ) → sum_to n (λ x. c * f x) ≡ c * sum_to n f
+sum_times zero c f = omega arith
+sum_times (suc n) c f = omega (arith, sum_times n c f)
+
+-- an open access weighs something
+clearing_heavy : (n y : ℕ) (m : ℕ → Mark) → y < n → awaits (m y) ≡ true → 0 < sum_to n (λ x. heft (m x))
+clearing_heavy n y m l e = let h = sum_part n y (λ x. heft (m x)) l in let w : 0 < heft (m y) = grind arith in omega arith
+
+module _ {W : Type 0} (n : ℕ) (v : W) (p : Page W) (i : Inv n v p) where
+  busy_heavy : (x : ℕ) (t : Journey W) → p.journey x ≡ t → busy t ≡ true → 0 < weight n t
+  busy_heavy x home e b = absurd (grind arith)
+  busy_heavy x (asking k u h) e b = let w = (i.core.ways.askers x (ap busy e)).bound in let f = ap far e in grind arith
+  busy_heavy x (queued k u h) e b = let w = (i.core.ways.askers x (ap busy e)).bound in let f = ap far e in grind arith
+  busy_heavy x (copied s h w) e b = omega arith
+  busy_heavy x (granted s h c w) e b = omega arith
+  busy_heavy x (clearing h m) e b =
+      let o = i.core.holders in
+      let r = o.only x (ap rooted e) in
+      let at_root : p.journey p.root ≡ clearing h m = ap p.journey (sym r) ∙ e in
+      let w = o.awaited (ap is_clearing at_root) in
+      let same_mark : mark p w.0 ≡ m w.0 = ap (λ t. mark_of t w.0) at_root in
+      clearing_heavy n w.0 m (o.marked w.0 w.1) (sym (ap awaits same_mark) ∙ w.1)
+
+module _ {W : Type 0} {same : Mail W → Mail W → Bool} {n : ℕ} {l : Ledger W} {k : Kit W} (i : Kept same n l k) where
+  abbrev here : ℕ → Journey W
+  here x = (i.pages (k.board x).seat.page).journey x
+
+  open_busy : (x : ℕ) → ((k.board x).seat.stage ≡ closed → ⊥) → busy (here x) ≡ true
+  open_busy x ne = not_closed_busy (here x) (k.board x).seat.stage (i.told.stages x (k.board x).seat.page ∙ open_here (k.board x).seat) ne
+
+  shut_absent : (x : ℕ) → (k.board x).seat.stage ≡ closed → l.opens x ≡ absent
+  shut_absent x c = i.opens x ∙ ap (λ z. op_by z (k.board x).seat.page (k.board x).seat.act) c
+
+  -- passed on n - 2 times at most
+  pub passed_bound : (x : ℕ) → is_open (l.opens x) ≡ true → l.passed x + 2 ≤ n
+  passed_bound x o = elim (stage_cases (k.board x).seat.stage) [
+    | inl c ↦ absurd (both_ways (is_open (l.opens x)) (ap is_open (shut_absent x c)) o)
+    | inr ne ↦ let b = open_busy x ne in omega (arith, i.passed x b, ((i.each (k.board x).seat.page).core.ways.askers x b).bound)
+  ]
+
+  -- with nothing left to do nothing is open
+  pub none_left : left_of i ≡ 0 → (x : ℕ) → l.opens x ≡ absent
+  none_left z x = elim (stage_cases (k.board x).seat.stage) [
+    | inl c ↦ shut_absent x c
+    | inr ne ↦ absurd (
+        let p = (k.board x).seat.page in
+        let b = open_busy x ne in
+        let w = busy_heavy n (l.memory p) (i.pages p) (i.each p) x (here x) refl b in
+        let s = sum_part n x (λ y. weight n (here y)) ((i.each p).core.ways.askers x b).in_range in
+        omega arith)
+  ]
+
+  idle_light : (j : Journey W) → stage_of j ≡ closed → weight n j ≡ 0
+  idle_light j e = grind arith
+
+  -- what is left is at most so much for each open access
+  pub left_bound : left_of i ≤ (3 * n - 4) * opens_count n l
+  left_bound = omega (arith, sum_le n (λ x. weight n (here x)) (λ x. (3 * n - 4) * bit (is_open (l.opens x))) (λ x _. each_bound x), sum_times n (3 * n - 4) (λ x. bit (is_open (l.opens x))))
+    where
+      just_open : (s : Stage) (p : ℕ) (f : W → W) → (s ≡ closed → ⊥) → is_open (op_by s p f) ≡ true
+      just_open s p f ne = grind arith
+
+      each_bound : (x : ℕ) → weight n (here x) ≤ (3 * n - 4) * bit (is_open (l.opens x))
+      each_bound x = elim (stage_cases (k.board x).seat.stage) [
+        | inl c ↦ let z = idle_light (here x) (i.told.stages x (k.board x).seat.page ∙ open_here (k.board x).seat ∙ c) in omega arith
+        | inr ne ↦ let z : bit (is_open (l.opens x)) ≡ 1 = ap (λ o. bit (is_open o)) (i.opens x) ∙ ap bit (just_open (k.board x).seat.stage (k.board x).seat.page (k.board x).seat.act ne) in
+            let y : (3 * n - 4) * bit (is_open (l.opens x)) ≡ 3 * n - 4 = rw z (omega arith) in
+            omega (arith, i.light (k.board x).seat.page x)
+      ]
+
+  -- where nothing is open nothing flies
+  pub shut_empty : Equality same → ((x : ℕ) → l.opens x ≡ absent) → (p : ℕ) (m : Mail W) (rest : Bag (Post W)) → k.link ≡ record { page = p; mail = m } & rest → ⊥
+  shut_empty law none_open p m rest e =
+      let f = taken_flies same law p m k.link rest (i.pages p).journey e (i.told.mails p) in
+      let o = owner m in
+      let c : (k.board o).seat.stage ≡ closed = shut_of (k.board o).seat.stage (k.board o).seat.page (k.board o).seat.act (sym (i.opens o) ∙ none_open o) in
+      let h : (i.pages p).journey o ≡ home = home_of ((i.pages p).journey o) (i.told.stages o p ∙ on_shut (k.board o).seat p c) in
+      let z : mail_of o ((i.pages p).journey o) (slot m) ≡ absent = ap (λ t. mail_of o t (slot m)) h in
+      let y : ◌≡◌ {A = ℕ} 0 1 = cc in
+      omega arith
+    where
+      shut_of : (s : Stage) (p : ℕ) (f : W → W) → op_by s p f ≡ absent → s ≡ closed
+      shut_of s p f e = grind arith
+
+      home_of : (j : Journey W) → stage_of j ≡ closed → j ≡ home
+      home_of j e = grind arith
+
+      on_shut : (s : Seat W) (p : ℕ) → s.stage ≡ closed → open_on s p ≡ closed
+      on_shut s p e = grind (arith, facts)
+
+-- each delivery takes from what is left, until nothing is open
+next_drain : {W : Type 0} {same : Mail W → Mail W → Bool} {n : ℕ} {h : Ledger W} {j : Kit W} → Equality same → (z : Kept same n h j) (m c : ℕ) → (left_of z + c ≤ m) ⊎ ((x : ℕ) → h.opens x ≡ absent) → {s : Said W} {ms : List (Mail W)} {g : Kit W} → Does n j call_deliver s ms g → (y : Kept same n (after h call_deliver s ms) g) × ((left_of y + suc c ≤ m) ⊎ ((x : ℕ) → (after h call_deliver s ms).opens x ≡ absent))
+next_drain law z m c (inl b) (delivers_it p x rest r e is) = let d = delivered law z p x rest e r is in (d.0, inl (omega (arith, d.2)))
+next_drain law z m c (inr b) (delivers_it p x rest r e is) = absurd (shut_empty z law b p x rest e)
+next_drain law z m c b (delivers_none e) = (nothing_new z, inr (quiet_none law z e))
+
+pub drains : {W : Type 0} {same : Mail W → Mail W → Bool} {n : ℕ} {l : Ledger W} {k : Kit W} → Equality same → (i : Kept same n l k) → {c : ℕ} {h : Ledger W} {j : Kit W} → Drains n l k c h j → (z : Kept same n h j) × ((left_of z + c ≤ left_of i) ⊎ ((x : ℕ) → h.opens x ≡ absent))
+drains law i no_more = (i, inl (omega arith))
+drains law i (one_more {c = c} r d) = let q = drains law i r in next_drain law q.0 (left_of i) c q.1 d
+
+-- after 3n - 4 deliveries for each open access nothing is open
+pub all_end : {W : Type 0} {same : Mail W → Mail W → Bool} {n : ℕ} {v : ℕ → W} {l h : Ledger W} {k j : Kit W} {c : ℕ} → Equality same → 0 < n → Reached n v l k → Drains n l k c h j → (3 * n - 4) * opens_count n l ≤ c → (x : ℕ) → h.opens x ≡ absent
+all_end {n = n} {l = l} law lt r d enough x =
+    let i = reached_kept law lt r in
+    let q = drains law i d in
+    let b = left_bound i in
+    elim q.1 [ inl le ↦ none_left q.0 (omega arith) x | inr all ↦ all x ]

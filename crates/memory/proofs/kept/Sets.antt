@@ -1,0 +1,20 @@
+use Rattle.std.proofs.Common.{◌≡◌, ℕ, zero, suc, Bool, false, cond, eqb, List, [], ◌∷◌, refl, arith}
+use Rattle.std.proofs.lemmas.Bool.Decides.{leb_tells, eqb_tells}
+use Rattle.memory.proofs.model.Sets.{has, put}
+
+pub has_none : (y : ℕ) → has [] y ≡ false
+unfolding has
+has_none y = refl
+
+pub has_put : (c : List Bool) (a : ℕ) (v : Bool) (y : ℕ) → has (put c a v) y ≡ cond (eqb y a) v (has c y)
+unfolding has put
+has_put [] zero v zero = grind (arith, eqb_tells)
+has_put [] zero v (suc y) = grind (arith, eqb_tells)
+has_put [] (suc a) v zero = grind (arith, eqb_tells)
+has_put [] (suc a) v (suc y) = grind (arith, eqb_tells, has_put [] a v y)
+has_put (b ∷ c) zero v zero = grind (arith, eqb_tells)
+has_put (b ∷ c) zero v (suc y) = grind (arith, eqb_tells)
+has_put (b ∷ c) (suc a) v zero = grind (arith, eqb_tells)
+has_put (b ∷ c) (suc a) v (suc y) = grind (arith, eqb_tells, has_put c a v y)
+
+pub ruleset facts = (leb_tells, eqb_tells, has_put, has_none)

@@ -1,0 +1,78 @@
+use Rattle.std.proofs.Common.{◌≡◌, ℕ, ◌+◌, Bool, true, false, List, [], refl, ap, arith}
+use Rattle.memory.proofs.kept.Sets.{facts}
+use Rattle.memory.proofs.model.Sums.{upd, bit}
+use Rattle.memory.proofs.model.Board.{Kind, Entry, Mail, request}
+use Rattle.memory.proofs.model.Page.{Journey, asking, queued, Page, busy, far}
+use Rattle.memory.proofs.model.Steps.{joined, joins, Answer, nothing, read_at, written_at, Delivery, moves}
+use Rattle.wire.specs.Bags.{Bag, ◌&◌}
+use Rattle.memory.proofs.model.Kit.{Maybe, absent, just, Stage, closed, asked, clears, Seat, Post, Kit, replies, open_on, with_waiting, arrive, to, mail_of, is_it, flies, times, Told, post_all, becomes, arrives, requests, op_load, op_store, op_of}
+use Rattle.memory.proofs.model.Kit.{Equality}
+use Rattle.memory.proofs.kept.Cells.{listed, cell_change, times_post}
+
+-- what a delivery tells of the open access of its board b, before and after, and of the hops
+abbrev pub Tale : {W : Type 0} → Answer W → Seat W → Seat W → ℕ → ℕ → Page W → List (Mail W) → Type 0
+Tale nothing s t b p g ms = op_of t ≡ op_of s
+Tale (read_at a h w) s t b p g ms = (a ≡ b) × (op_of s ≡ just (op_load p)) × (op_of t ≡ absent) × (h ≡ far (g.journey a)) × (requests a ms ≡ 0)
+Tale (written_at a h f) s t b p g ms = (a ≡ b) × (op_of s ≡ just (op_store p f)) × (op_of t ≡ absent) × (h ≡ far (g.journey a)) × (requests a ms ≡ 0)
+
+-- what a message does to a kit that its pages tell, as a step of its page
+pub record Sim {W : Type 0} (same : Mail W → Mail W → Bool) (n : ℕ) (k : Kit W) (pages : ℕ → Page W) (p : ℕ) (m : Mail W) (rest : Bag (Post W)) : Type 0 where
+  pub seat : Seat W
+  pub entry : Entry W
+  pub posts : List (Mail W)
+  pub answer : Answer W
+  pub page : Page W
+  pub replied : arrives n k p m ≡ replies seat entry posts answer
+  pub moved : Delivery (pages p) answer page
+  pub same_page : seat.page ≡ (k.board (to m)).seat.page
+  pub tale : Tale answer (k.board (to m)).seat seat (to m) p (pages p) posts
+  pub hops : (x : ℕ) → busy (page.journey x) ≡ true → far (page.journey x) ≡ far ((pages p).journey x) + requests x posts
+  pub calm : (x : ℕ) → busy (page.journey x) ≡ false → requests x posts ≡ 0
+  pub told : Told same (becomes k (to m) p seat entry posts rest) (upd pages p page)
+
+module _ {W : Type 0} (same : Mail W → Mail W → Bool) (law : Equality same) where
+  pub replace : (j l : ℕ → Journey W) (o s : ℕ) (old new : Maybe (Mail W)) → mail_of o (j o) s ≡ old → mail_of o (l o) s ≡ new → ((a y : ℕ) → (a ≡ o → y ≡ s → ⊥) → mail_of a (l a) y ≡ mail_of a (j a) y) → (x : Mail W) → bit (flies same l x) + bit (is_it same x old) ≡ bit (flies same j x) + bit (is_it same x new)
+  replace j l o s old new e d rest x = omega (arith, cell_change same law j l o s rest x, ap (λ c. bit (is_it same x c)) e, ap (λ c. bit (is_it same x c)) d)
+
+module _ {W : Type 0} (same : Mail W → Mail W → Bool) (law : Equality same) (n : ℕ) (k : Kit W) (pages : ℕ → Page W) (t : Told same k pages) (p : ℕ) (rest : Bag (Post W)) where
+  -- the messages after a delivery, from what its page's journeys say
+  pub mails_after : (m : Mail W) (ms : List (Mail W)) (q : Page W) → k.link ≡ record { page = p; mail = m } & rest → ((x : Mail W) → bit (flies same q.journey x) + bit (same x m) ≡ bit (flies same (pages p).journey x) + listed same x ms) → (r : ℕ) (x : Mail W) → times same r x (post_all p ms rest) ≡ bit (flies same (upd pages p q r).journey x)
+  mails_after m ms q e net r x =
+      let a = times_post same law p r x ms rest in
+      let b = ap (times same r x) e in
+      let c = t.mails r x in
+      let d = net x in
+      grind (arith, facts)
+
+  arrive_busy : (u a h : ℕ) (d : Kind) (s : Seat W) (e : Entry W) (st : Stage) → (st ≡ closed → ⊥) → arrive n u s e (request d u a h) st ≡ replies (with_waiting s (record { asker = a; kind = d; hops = h })) e [] nothing
+  arrive_busy u a h d s e closed ne = absurd (ne refl)
+  arrive_busy u a h d s e (asked j) ne = refl
+  arrive_busy u a h d s e (clears g) ne = refl
+
+  pub join_sim : (a u h : ℕ) (d : Kind) → k.link ≡ record { page = p; mail = request d u a h } & rest → (pages p).journey a ≡ asking d u h → busy ((pages p).journey u) ≡ true → Sim same n k pages p (request d u a h) rest
+  join_sim a u h d e at b =
+      let s = (k.board u).seat in
+      let st = t.stages u p in
+      let on : open_on s p ≡ closed → ⊥ = λ q. grind (arith, facts) in
+      let here_is : p ≡ s.page = grind (arith, facts) in
+      record {
+        seat = with_waiting s (record { asker = a; kind = d; hops = h });
+        entry = (k.board u).entry p;
+        posts = [];
+        answer = nothing;
+        page = joined (pages p) a u d h;
+        replied = arrive_busy u a h d s ((k.board u).entry p) (open_on s p) on;
+        moved = moves (joins a u h d at b);
+        same_page = refl;
+        tale = refl;
+        hops = λ x _. grind (arith, facts);
+        calm = λ x _. refl;
+        told = record {
+          entries = λ x r. grind (arith, facts, t.entries x r);
+          stages = λ x r. grind (arith, facts, t.stages x r);
+          awaiting = λ x y. grind (arith, facts, t.awaiting x y);
+          waitings = λ x r. grind (arith, facts, t.waitings x r);
+          deferrals = λ x. grind (arith, facts, t.deferrals x);
+          mails = mails_after (request d u a h) [] (joined (pages p) a u d h) e (replace same law (pages p).journey (upd (pages p).journey a (queued d u h)) a a (just (request d u a h)) absent (grind (arith, facts)) (grind (arith, facts)) (λ b y ne. grind (arith, facts)));
+        };
+      }

@@ -1,0 +1,163 @@
+use Rattle.std.proofs.Common.{◌≡◌, ℕ, zero, suc, ◌+◌, ◌*◌, ◌<◌, ◌≤◌, Bool, true, false, List, refl, ap, inl, inr, arith}
+use Rattle.std.proofs.lemmas.Bool.{cases_eq, cases_Bool}
+use Rattle.memory.proofs.model.Sets.{has, put, Boards}
+use Rattle.memory.proofs.kept.Sets.{facts}
+use Rattle.memory.proofs.model.Sums.{upd, bit}
+use Rattle.std.specs.List.{AllByRecursion as All}
+use Rattle.memory.proofs.model.Board.{Kind, load, store, Req}
+use Rattle.memory.proofs.model.Page.{Mark, unmarked, deferred, acked, home, asking, queued, clearing, Page, awaits, busy, far, rooted, queued_at, At, occ, marks}
+use Rattle.memory.proofs.model.Invariant.{Holders, Core, Inv}
+use Rattle.memory.proofs.model.Sums.{sum_to, count}
+use Rattle.memory.proofs.model.Steps.{stored_at, Serves, passes, copies_it, grants, Serving, empty, one, Call, ask_load, ask_store, clear, Move, joins, served, grant_in, defers, drops, acks, Loaded, copy_in, copy_then_drop, Stores, grant_free, last_ack, Answer, Delivery, moves, loads, stores}
+use Rattle.memory.proofs.model.Weights.{heft, weight, left, Falls, Opens, DeliveriesFall, CallsWeigh}
+use Rattle.memory.proofs.kept.Summed.{upd_same, upd_other, sum_one, sum_le, count_le, count_more, count_room}
+use Rattle.memory.proofs.kept.Serve.{asker_in, owner}
+use Rattle.memory.proofs.kept.Moves.{no_access, own}
+use Rattle.memory.proofs.kept.Lists.{serves_one, popped, others_told}
+use Rattle.memory.proofs.kept.Steps.{loaded_core, ready_core, stores_ready, run_inv}
+
+pub sum_less : (n a : ℕ) (f g : ℕ → ℕ) → ((x : ℕ) → g x ≤ f x) → a < n → g a < f a → sum_to n g < sum_to n f
+sum_less zero a f g h l k = omega arith
+sum_less (suc n) a f g h l k = elim (cases_eq n a) [
+  | inl e ↦ omega (arith, sum_le n g f (λ x _. h x), ap f e, ap g e)
+  | inr e ↦ omega (arith, sum_less n a f g h (omega arith) k, h n)
+]
+
+-- one mark changed
+pub heft_one : (n x : ℕ) (m : ℕ → Mark) (t : Mark) → x < n → sum_to n (λ y. heft (upd m x t y)) + heft (m x) ≡ sum_to n (λ y. heft (m y)) + heft t
+heft_one n x m t l = omega (arith, sum_one n x (λ y. heft (m y)) (λ y. heft (upd m x t y)) l (λ y ne. ap heft (upd_other m x t y ne)), ap heft (upd_same m x t))
+
+pub heft_marks : (n : ℕ) (c : Boards) → sum_to n (λ y. heft (marks c y)) ≡ 2 * count n (has c)
+heft_marks zero c = refl
+heft_marks (suc n) c = grind (arith, heft_marks n c, cases_Bool (has c n))
+
+pub count_room_one : (n i : ℕ) (c : ℕ → Bool) → i < n → c i ≡ false → count n c + 1 ≤ n
+count_room_one n i c l e = omega (arith, count_more n i c l e, count_le n (upd c i true))
+
+module _ {W : Type 0} where
+  pub record Lighter (n : ℕ) (p q : Page W) : Type 0 where
+    pub never : (x : ℕ) → weight n (q.journey x) ≤ weight n (p.journey x)
+
+  -- a request of a, served: no journey gets heavier, and where it was on its way a's gets lighter
+  module _ {n : ℕ} {v : W} {p : Page W} (i : Core n v p) (u a : ℕ) (ws : ℕ → List Req) (e : p.journey u ≡ home) (rest : (w b : ℕ) → occ b (ws w) ≡ bit (queued_at w (upd p.journey a home b))) (stays : (w : ℕ) → All (λ (r : Req). p.journey r.asker ≡ queued r.kind w r.hops) (ws w)) where
+    bound : (k : Kind) (h : ℕ) → At (p.journey a) k u h → h + 2 ≤ n
+    bound k h at = let b : busy (p.journey a) ≡ true = grind arith in let f : far (p.journey a) ≡ h = grind arith in omega (arith, (i.ways.askers a b).bound)
+
+    room : (h : ℕ) → At (p.journey a) store u h → (p.entry u).hint ≡ u → count n (has (put (p.entry u).copies a false)) + 2 ≤ n
+    room h at q =
+        let r = owner n v p i u a h store ws at e rest stays q in
+        let in_a = asker_in n v p i u a h store ws at e rest stays in
+        let o = i.holders in
+        let lacks : has (p.entry u).copies u ≡ false = grind (arith, facts, o.exact u) in
+        count_room n u a (has (put (p.entry u).copies a false)) (omega (arith, i.ways.root_in)) in_a (λ s. grind arith) (grind (arith, facts)) (grind (arith, facts))
+
+    pub serves_light : {q : Page W} → Serves p u a ws q → Lighter n p q
+    serves_light (passes k h at ne) = let b = bound k h at in record { never = λ x. grind (arith, facts) }
+    serves_light (copies_it h at q) = let b = bound load h at in record { never = λ x. grind (arith, facts) }
+    serves_light (grants h at q) = let b = bound store h at in let c = room h at q in record { never = λ x. grind (arith, facts) }
+
+    pub serves_less : {q : Page W} (k : Kind) (h : ℕ) → p.journey a ≡ asking k u h → Serves p u a ws q → weight n (q.journey a) < weight n (p.journey a)
+    serves_less k h is (passes l g at ne) = let b = bound l g at in grind (arith, facts)
+    serves_less k h is (copies_it g at q) = let b = bound load g at in grind (arith, facts)
+    serves_less k h is (grants g at q) = let b = bound store g at in let c = room g at q in grind (arith, facts)
+
+  pub serving_light : {n : ℕ} {v : W} (u : ℕ) {p s : Page W} → Core n v p → p.journey u ≡ home → Serving u p s → Lighter n p s
+  serving_light u i e (empty _) = record { never = λ x. omega arith }
+  serving_light {n} {v} u {p} i e (one {q = q} {s = s} r rest is this more) =
+      let k = serves_one i u r.asker (upd p.waits u rest) e (popped i u r rest is) (others_told i u r rest is) this in
+      let l = serves_light i u r.asker (upd p.waits u rest) e (popped i u r rest is) (others_told i u r rest is) this in
+      let m = serving_light u k.core k.still more in
+      record { never = λ x. omega (arith, l.never x, m.never x) }
+
+  module _ {n : ℕ} {v : W} {p : Page W} (i : Inv n v p) where
+    abbrev o : Holders n p
+    o = i.core.holders
+
+    in_range : (a : ℕ) → busy (p.journey a) ≡ true → a < n
+    in_range a e = (i.core.ways.askers a e).in_range
+
+    marked_in : (c x h : ℕ) (m : ℕ → Mark) → p.journey c ≡ clearing h m → awaits (m x) ≡ true → x < n
+    marked_in c x h m e is = let r = o.only c (ap rooted e) in grind (arith, o.marked x)
+
+    -- one mark of a clearing board gets lighter
+    mark_falls : (c x h : ℕ) (m : ℕ → Mark) (t : Mark) (q : Page W) → p.journey c ≡ clearing h m → awaits (m x) ≡ true → heft t < heft (m x) → ((y : ℕ) → q.journey y ≡ upd p.journey c (clearing h (upd m x t)) y) → Falls n p q
+    mark_falls c x h m t q e is less q_is =
+        let w = heft_one n x m t (marked_in c x h m e is) in
+        record { never = λ y. grind (arith, facts, q_is y); who = c; who_in = in_range c (ap busy e); lighter = grind (arith, facts, q_is c) }
+
+    move_falls : {q : Page W} → Move p q → Falls n p q
+    move_falls (joins a u h k e is) =
+        let b = (i.core.ways.askers a (ap busy e)).bound in
+        record { never = λ x. grind (arith, facts); who = a; who_in = in_range a (ap busy e); lighter = grind (arith, facts) }
+    move_falls (served {q} a u h k e is this) =
+        let rest : (w b : ℕ) → occ b (p.waits w) ≡ bit (queued_at w (upd p.journey a home b)) = λ w b. grind (arith, facts, i.core.lists w b) in
+        record {
+          never = (serves_light i.core u a p.waits is rest i.core.told this).never;
+          who = a;
+          who_in = in_range a (ap busy e);
+          lighter = serves_less i.core u a p.waits is rest i.core.told k h e this;
+        }
+    move_falls (grant_in a s h y c w e is) = let k = heft_marks n c in record { never = λ x. grind (arith, facts); who = a; who_in = in_range a (ap busy e); lighter = grind (arith, facts) }
+    move_falls (defers c x h m e is k) = mark_falls c x h m deferred _ e (ap awaits is) (grind (arith, facts)) (λ y. refl)
+    move_falls (drops c x h m e is k) = mark_falls c x h m acked _ e (ap awaits is) (grind (arith, facts)) (λ y. refl)
+    move_falls (acks c x y h m e is k ne) = mark_falls c x h m unmarked _ e (ap awaits is) (grind (arith, facts)) (λ y. refl)
+
+    falls_then : {q s : Page W} → Falls n p q → Lighter n q s → Falls n p s
+    falls_then f l = record {
+      never = λ x. omega (arith, f.never x, l.never x);
+      who = f.who;
+      who_in = f.who_in;
+      lighter = omega (arith, f.lighter, l.never f.who);
+    }
+
+    loaded_falls : (a h : ℕ) (w : W) {q s : Page W} → Loaded p a h w q → Serving a q s → Falls n p s
+    loaded_falls a h w (copy_in s e ne) more =
+        falls_then
+        (record { never = λ x. grind (arith, facts); who = a; who_in = in_range a (ap busy e); lighter = grind (arith, facts) })
+        (serving_light a (loaded_core i a h w (copy_in s e ne)) (grind (arith, facts)) more)
+    loaded_falls a h w (copy_then_drop s c g m e k is) more =
+        let same = heft_one n a m acked (in_range a (ap busy e)) in
+        falls_then
+        (record { never = λ x. grind (arith, facts); who = a; who_in = in_range a (ap busy e); lighter = grind (arith, facts) })
+        (serving_light a (loaded_core i a h w (copy_then_drop s c g m e k is)) (grind (arith, facts)) more)
+
+    stored_falls : (a h : ℕ) (w : W) (f : W → W) {s : Page W} → Stores p a h w → Serving a (stored_at p a (f w)) s → Falls n p s
+    stored_falls a h w f (grant_free s c e is) more =
+        falls_then
+        (record { never = λ x. grind (arith, facts); who = a; who_in = in_range a (ap busy e); lighter = grind (arith, facts) })
+        (serving_light a (ready_core i a h w f (stores_ready i a h w (grant_free s c e is))) (grind (arith, facts)) more)
+    stored_falls a h w f (last_ack x m e is others same) more =
+        let k = heft_one n x m unmarked (marked_in a x h m e (ap awaits is)) in
+        falls_then
+        (record { never = λ x. grind (arith, facts); who = a; who_in = in_range a (ap busy e); lighter = grind (arith, facts) })
+        (serving_light a (ready_core i a h w f (stores_ready i a h w (last_ack x m e is others same))) (grind (arith, facts)) more)
+
+    pub delivery_falls : {d : Answer W} {q : Page W} → Delivery p d q → Falls n p q
+    delivery_falls (moves m) = move_falls m
+    delivery_falls (loads a h w l more) = loaded_falls a h w l more
+    delivery_falls (stores a h w f k more) = stored_falls a h w f k more
+
+    pub call_opens : {q : Page W} → Call n p q → Opens n p q
+    call_opens (ask_load a l e is) =
+        let r = no_access n v p i.core a e is in
+        let k = i.core.ways.root_in in
+        let two : 2 ≤ n = omega arith in
+        record { who = a; was = e; now = grind (arith, facts); others = λ x. grind (arith, facts) }
+    call_opens (ask_store a l e is) = record { who = a; was = e; now = grind (arith, facts); others = λ x. grind (arith, facts) }
+    call_opens (clear a y l e q c) =
+        let r = own n v p i.core a l e q in
+        let lacks : has (p.entry a).copies a ≡ false = grind (arith, facts, o.exact a) in
+        let in_y : y < n = let g = i.core.ways.askers y in grind (arith, facts, o.exact y, i.core.tables.inside y) in
+        let two : 2 ≤ n = grind (arith, facts) in
+        let room = count_room_one n a (has (p.entry a).copies) l lacks in
+        let k = heft_marks n (p.entry a).copies in
+        record { who = a; was = e; now = grind (arith, facts); others = λ x. grind (arith, facts) }
+
+pub falls_sum : {W : Type 0} {n : ℕ} {p q : Page W} → Falls n p q → left n q < left n p
+falls_sum {n = n} {p = p} {q = q} f = sum_less n f.who (λ x. weight n (p.journey x)) (λ x. weight n (q.journey x)) f.never f.who_in f.lighter
+
+pub deliveries_fall : {W : Type 0} → DeliveriesFall W
+deliveries_fall n v m p q d l r k = let f = delivery_falls (run_inv l r) k in (f, falls_sum f)
+
+pub calls_weigh : {W : Type 0} → CallsWeigh W
+calls_weigh n v m p q l r k = call_opens (run_inv l r) k

@@ -1,0 +1,10 @@
+pub mod Sums
+pub mod Sets
+pub mod Tree
+pub mod Board
+pub mod Page
+pub mod Steps
+pub mod Invariant
+pub mod Weights
+pub mod Kit
+pub mod History

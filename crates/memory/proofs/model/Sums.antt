@@ -1,0 +1,15 @@
+-- A function changed at one number, sums and counts over the numbers below n.
+use Rattle.std.specs.Prelude.{ℕ, zero, suc, ◌+◌, Bool, cond, ◌==◌}
+
+abbrev pub upd : {X : Type 0} → (ℕ → X) → ℕ → X → ℕ → X
+upd f i v x = cond (x == i) v (f x)
+
+abbrev pub sum_to : ℕ → (ℕ → ℕ) → ℕ
+sum_to zero f = 0
+sum_to (suc n) f = f n + sum_to n f
+
+abbrev pub bit : Bool → ℕ
+bit b = cond b 1 0
+
+abbrev pub count : ℕ → (ℕ → Bool) → ℕ
+count n p = sum_to n (λ i. bit (p i))

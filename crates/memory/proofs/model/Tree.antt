@@ -1,0 +1,68 @@
+-- Following `next` from board to board, and the four ways in which it changes.
+use Rattle.std.specs.Prelude.{◌≡◌, ℕ, ◌+◌, ◌<◌, ◌≤◌, Bool, true, false, ◌≢◌}
+use Rattle.memory.proofs.model.Sums.{upd, count}
+
+-- x reaches b by following f
+pub data Reach (f : ℕ → ℕ) (b : ℕ) : ℕ → Type 0 where
+  here : {x : ℕ} → x ≡ b → Reach f b x
+  step : {x y : ℕ} → f x ≡ y → Reach f b y → Reach f b x
+
+-- f with a's edge to u turned round, and a's own edge then leading to v
+pub record Turned (f g : ℕ → ℕ) (a u v : ℕ) : Type 0 where
+  pub was : f a ≡ u
+  pub a_now : g a ≡ v
+  pub u_now : g u ≡ a
+  pub rest : (x : ℕ) → (x ≢ a) → (x ≢ u) → g x ≡ f x
+
+pub record State : Type 0 where
+  pub root : ℕ
+  pub next : ℕ → ℕ
+  pub asked : ℕ → Bool
+  pub hops : ℕ → ℕ
+
+-- the boards that a's request has been passed on by, h of them
+pub record Trail (n : ℕ) (next : ℕ → ℕ) (a h : ℕ) : Type 0 where
+  pub seen : ℕ → Bool
+  pub many : count n seen ≡ h
+  pub other : seen a ≡ false
+  pub below : (x : ℕ) → seen x ≡ true → Reach next a x
+
+pub record Asker (n : ℕ) (next : ℕ → ℕ) (a h : ℕ) : Type 0 where
+  pub in_range : a < n
+  pub trail : Trail n next a h
+  pub bound : h + 2 ≤ n
+
+pub record Inv (n : ℕ) (s : State) : Type 0 where
+  pub root_in : s.root < n
+  pub root_fix : s.next s.root ≡ s.root
+  pub inside : (x : ℕ) → x < n → s.next x < n
+  pub tree : (x : ℕ) → x < n → Reach s.next s.root x
+  pub askers : (a : ℕ) → s.asked a ≡ true → Asker n s.next a (s.hops a)
+
+abbrev pub opened : State → ℕ → State
+opened s a = record { root = s.root; next = s.next; asked = upd s.asked a true; hops = upd s.hops a 0 }
+
+abbrev pub passed_on : State → ℕ → ℕ → State
+passed_on s a u = record { root = s.root; next = upd (upd s.next a (s.next u)) u a; asked = s.asked; hops = upd s.hops a (s.hops a + 1) }
+
+abbrev pub granted : State → ℕ → State
+granted s a = record { root = a; next = upd (upd s.next a a) s.root a; asked = s.asked; hops = s.hops }
+
+abbrev pub closed : State → ℕ → State
+closed s a = record { root = s.root; next = s.next; asked = upd s.asked a false; hops = upd s.hops a 0 }
+
+pub data Step (n : ℕ) (s : State) : State → Type 0 where
+  open_at : (a : ℕ) → a < n → s.asked a ≡ false → (a ≢ s.root) → Step n s (opened s a)
+  forward : (a u : ℕ) → s.asked a ≡ true → s.next a ≡ u → (u ≢ a) → (u ≢ s.root) → s.asked u ≡ false → Step n s (passed_on s a u)
+  grant : (a : ℕ) → s.asked a ≡ true → s.next a ≡ s.root → (s.root ≢ a) → s.asked s.root ≡ false → Step n s (granted s a)
+  close_at : (a : ℕ) → Step n s (closed s a)
+
+abbrev pub first : State
+first = record { root = 0; next = λ _. 0; asked = λ _. false; hops = λ _. 0 }
+
+pub data Run (n : ℕ) : State → Type 0 where
+  start : Run n first
+  more : {s t : State} → Run n s → Step n s t → Run n t
+
+abbrev pub FindBound : Type 0
+FindBound = (n : ℕ) → 0 < n → (s : State) → Run n s → (a : ℕ) → s.asked a ≡ true → s.hops a + 2 ≤ n
