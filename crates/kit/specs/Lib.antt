@@ -1,4 +1,3 @@
-pub mod Kits
+pub mod Clusters
 pub mod KitQuestions
-pub mod Memory
 pub mod WorkedCases

@@ -1,6 +1,8 @@
 ghost use Rattle.std.specs.Prelude.{◌≡◌, MatchResult};
 ghost use Rattle.wire.specs.Questions.{refusal, first_no};
-ghost use Rattle.kit.specs.Kits.{kit_of, start_kit, placed};
+ghost use Rattle.memory.specs.Kits.{start_kit};
+ghost use Rattle.memory.specs.Placements.{placed};
+ghost use Rattle.kit.specs.Clusters.{kit_of};
 ghost use Rattle.kit.specs.KitQuestions.{place_questions};
 
 use crate::node::Node;

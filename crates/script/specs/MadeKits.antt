@@ -3,7 +3,7 @@ use Rattle.std.specs.Prelude.{ℕ, List, [], Some, None, Option}
 use Rattle.wire.specs.Links.{largest_limit}
 use Rattle.wire.specs.Rows.{row}
 use Rattle.wire.specs.declared.message.Message.{Message}
-use Rattle.kit.specs.Kits.{kit_of}
+use Rattle.kit.specs.Clusters.{kit_of}
 use Rattle.script.specs.Plays.{Bench, no_kit, loading}
 use Rattle.script.specs.declared.call.LinkKind.TheVariants.{Queue, Pool}
 use Rattle.script.specs.declared.turn.MadeKit.{MadeKit}

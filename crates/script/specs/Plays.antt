@@ -2,8 +2,9 @@
 use Rattle.std.specs.Prelude.{ℕ, Bool, true, false, cond, List, [], ◌∷◌, ◌++◌, is_some, Some, None, Option, ◌==◌, slice_index}
 use Rattle.wire.specs.Links.{largest_limit}
 use Rattle.wire.specs.Questions.{first_no}
+use Rattle.memory.specs.Kits as kits
+use Rattle.memory.specs.Placements.{placed}
 use Rattle.kit.specs.KitQuestions.{making_questions, place_questions}
-use Rattle.kit.specs.Kits as kits
 use Rattle.script.specs.Lines.{line_of, refused_line, text}
 use Rattle.script.specs.Records.{records, form, letter_k}
 use Rattle.script.specs.Steps.{◌>>=◌}
@@ -32,7 +33,7 @@ carried_out no_kit (Load b a) = None
 carried_out no_kit (Store b a w) = None
 carried_out no_kit (Deliver pick) = None
 carried_out (loading link k) (Kit plan) = None
-carried_out (loading link k) (Place a w) = Some (record { answer = Placed a w; bench = loading link (kits.placed k a w) })
+carried_out (loading link k) (Place a w) = Some (record { answer = Placed a w; bench = loading link (placed k a w) })
 carried_out (loading link k) (Load b a) = None
 carried_out (loading link k) (Store b a w) = None
 carried_out (loading link k) (Deliver pick) = None

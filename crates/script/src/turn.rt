@@ -2,8 +2,9 @@ ghost use Rattle.std.specs.Prelude.{◌≡◌, [], IfOk, OnErr, Some, MatchResul
 ghost use Rattle.wire.specs.Links.{largest_limit};
 ghost use Rattle.wire.specs.Questions.{refusal, first_no};
 ghost use Rattle.wire.specs.Rows.{row};
+ghost use Rattle.memory.specs.Kits.{start_kit};
+ghost use Rattle.kit.specs.Clusters.{kit_of};
 ghost use Rattle.kit.specs.KitQuestions.{making_questions};
-ghost use Rattle.kit.specs.Kits.{kit_of, start_kit};
 ghost use Rattle.script.specs.MadeKits.{bench_of, bench_with, limit_of, limit_with, messages_on, messages_with};
 ghost use Rattle.script.specs.Plays.{no_kit, loading, record_questions, carried_out};
 ghost use Rattle.script.specs.Records.{form};

@@ -1,5 +1,5 @@
 use Rattle.std.proofs.lemmas.Result.{err_from_is_err_and}
-use Rattle.kit.specs.Kits.{kit_of}
+use Rattle.kit.specs.Clusters.{kit_of}
 use Rattle.script.specs.Plays.{loading}
 use Rattle.script.specs.Records.{form}
 use Rattle.script.proofs.Turns.{refused_form}

@@ -2,7 +2,7 @@ use Rattle.std.proofs.Common.{refl, rules}
 use Rattle.wire.proofs.FromFn.{shown}
 use Rattle.board.specs.Boards.{start_state}
 use Rattle.lone.specs.Tables.{start_table}
-use Rattle.kit.specs.Kits.{node_state, node_entries}
+use Rattle.kit.specs.Clusters.{node_state, node_entries}
 use Rattle.kit.proofs.cluster.Cluster.start.Goals as goal
 
 pub returns : goal.returns

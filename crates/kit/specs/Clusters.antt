@@ -1,0 +1,16 @@
+-- What the code's boards are as a kit.
+use Rattle.std.specs.Prelude.{List, map}
+use Rattle.board.specs.Boards.{BoardState, state_of}
+use Rattle.board.specs.declared.entry.PageEntry.{PageEntry}
+use Rattle.memory.specs.Kits.{Kit}
+use Rattle.kit.specs.declared.node.Node.{Node}
+use Rattle.kit.specs.declared.cluster.Cluster.{Cluster}
+
+abbrev pub node_state : Node → BoardState
+node_state n = state_of n.state
+
+abbrev pub node_entries : Node → List PageEntry
+node_entries n = n.table.entries
+
+abbrev pub kit_of : Cluster → Kit
+kit_of k = record { boards = k.size.boards; pages = k.size.pages; states = map node_state k.nodes; tables = map node_entries k.nodes }
