@@ -1,1 +1,4 @@
 pub mod Placing
+pub mod Splits
+pub mod Earlier
+pub mod Carried
