@@ -4,3 +4,4 @@ pub mod Earlier
 pub mod Carried
 pub mod model
 pub mod kept
+pub mod images

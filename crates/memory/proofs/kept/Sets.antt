@@ -1,10 +1,16 @@
-use Rattle.std.proofs.Common.{◌≡◌, ℕ, zero, suc, Bool, false, cond, eqb, List, [], ◌∷◌, refl, arith}
+use Rattle.std.proofs.Common.{◌≡◌, ℕ, zero, suc, Bool, false, cond, eqb, List, replicate, [], ◌∷◌, refl, arith}
 use Rattle.std.proofs.lemmas.Bool.Decides.{leb_tells, eqb_tells}
-use Rattle.memory.proofs.model.Sets.{has, put}
+use Rattle.memory.proofs.model.Sets.{has, put, nobody}
 
-pub has_none : (y : ℕ) → has [] y ≡ false
+has_none_of : (n y : ℕ) → has (replicate n false) y ≡ false
 unfolding has
-has_none y = refl
+has_none_of zero y = refl
+has_none_of (suc n) zero = refl
+has_none_of (suc n) (suc y) = has_none_of n y
+
+pub has_none : (y : ℕ) → has nobody y ≡ false
+unfolding nobody
+has_none y = has_none_of 16 y
 
 pub has_put : (c : List Bool) (a : ℕ) (v : Bool) (y : ℕ) → has (put c a v) y ≡ cond (eqb y a) v (has c y)
 unfolding has put

@@ -1,11 +1,11 @@
 -- A set of boards, as a list of tests.
-use Rattle.std.specs.Prelude.{ℕ, zero, suc, Bool, false, List, [], ◌∷◌}
+use Rattle.std.specs.Prelude.{ℕ, zero, suc, Bool, false, List, replicate, [], ◌∷◌}
 
 abbrev pub Boards : Type 0
 Boards = List Bool
 
-abbrev pub nobody : Boards
-nobody = []
+unfoldable pub nobody : Boards
+nobody = replicate 16 false
 
 unfoldable pub has : List Bool → ℕ → Bool
 has [] y = false

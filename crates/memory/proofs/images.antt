@@ -1,0 +1,4 @@
+pub mod Images
+pub mod Sets
+pub mod Serving
+pub mod Arrivals
