@@ -1,1 +1,3 @@
 pub mod Placing
+pub mod Playing
+pub mod Witnesses

@@ -7,3 +7,4 @@ pub mod Willing
 pub mod Calls
 pub mod Reached
 pub mod Promises
+pub mod Witnesses

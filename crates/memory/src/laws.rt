@@ -1,8 +1,24 @@
 ghost use Rattle.memory.specs.Placements.{PlacedWords};
 ghost use Rattle.memory.specs.Promises.{IsOneMemory, IsWilling, NeverRefuses};
+ghost use Rattle.memory.specs.Witnesses.{BringsWhatAnotherStored, PassesOnOnce, NeedsAllDeliveries, PassedOnIsSharp, DeliveriesAreSharp};
 
 /// A kit begins with the words that were placed, else zeros.
 #[tactic(auto, using(crate::proofs::Placing::placed_words))]
 pub fn placed_words()
     ensures { PlacedWords }
+{}
+
+/// What a kit can do.
+#[tactic(auto, using(crate::proofs::Witnesses::brings_what_another_stored, crate::proofs::Witnesses::passes_on_once, crate::proofs::Witnesses::needs_all_deliveries))]
+pub fn witnesses()
+    ensures brings { BringsWhatAnotherStored }
+    ensures passes { PassesOnOnce }
+    ensures deliveries { NeedsAllDeliveries }
+{}
+
+/// The bounds of the promise cannot be lowered.
+#[tactic(auto, using(crate::proofs::Witnesses::passed_on_is_sharp, crate::proofs::Witnesses::deliveries_are_sharp))]
+pub fn sharp_bounds()
+    ensures passed { PassedOnIsSharp }
+    ensures deliveries { DeliveriesAreSharp }
 {}
