@@ -8,3 +8,4 @@ pub mod Calls
 pub mod Reached
 pub mod Promises
 pub mod Witnesses
+pub mod WrongHistories

@@ -1,6 +1,7 @@
 ghost use Rattle.memory.specs.Placements.{PlacedWords};
 ghost use Rattle.memory.specs.Promises.{IsOneMemory, IsWilling, NeverRefuses};
 ghost use Rattle.memory.specs.Witnesses.{BringsWhatAnotherStored, PassesOnOnce, NeedsAllDeliveries, PassedOnIsSharp, DeliveriesAreSharp};
+ghost use Rattle.memory.specs.WrongHistories.{WrongHistoriesAreTold, RefusingIsOneMemory, RefusingIsNotWilling};
 
 /// A kit begins with the words that were placed, else zeros.
 #[tactic(auto, using(crate::proofs::Placing::placed_words))]
@@ -21,4 +22,12 @@ pub fn witnesses()
 pub fn sharp_bounds()
     ensures passed { PassedOnIsSharp }
     ensures deliveries { DeliveriesAreSharp }
+{}
+
+/// What one memory, and a willing kit, rule out.
+#[tactic(auto, using(crate::proofs::Refusing::refusing_is_one_memory, crate::proofs::Refusing::refusing_is_not_willing))]
+pub fn wrong_histories()
+    ensures told { WrongHistoriesAreTold }
+    ensures refusing { RefusingIsOneMemory }
+    ensures unwilling { RefusingIsNotWilling }
 {}
