@@ -1,5 +1,5 @@
 -- Calls played on a kit: the waiting messages stand in a list, and a delivery takes the one at the place that it picks.
-use Rattle.std.proofs.Common.{◌≡◌, ℕ, ◌+◌, ◌<◌, ◌≤◌, nat_lt, nat_le, Bool, true, false, ◌&&◌, List, [], ◌∷◌, ◌++◌, length, get_or, Some, None, Ok, Option, refl, inr, ap, ◌∙◌, sym, subst, append_assoc, arith}
+use Rattle.std.proofs.Common.{◌≡◌, ℕ, zero, suc, ◌+◌, ◌<◌, ◌≤◌, nat_lt, nat_le, Bool, true, false, ◌&&◌, List, [], ◌∷◌, ◌++◌, length, get_or, replicate, Some, None, Ok, Option, refl, inr, ap, ◌∙◌, sym, subst, append_assoc, arith}
 use Rattle.std.proofs.lemmas.Bool.{and_parts, ltb-true, leb-true, le-leb}
 use Rattle.std.proofs.lemmas.List.{append-nil}
 use Rattle.std.specs.List.{remove}
@@ -16,7 +16,7 @@ use Rattle.memory.specs.declared.call.Call.TheVariants.{Load, Store, Deliver}
 use Rattle.memory.specs.declared.answer.Answer.{Answer}
 use Rattle.memory.specs.declared.answer.Answer.TheVariants.{Accessed, Arrived}
 use Rattle.memory.specs.Calls.{Running, Does, Answers, room}
-use Rattle.memory.specs.Histories.{Event, History}
+use Rattle.memory.specs.Histories.{Event, History, OnlyDeliveries}
 use Rattle.memory.specs.Kits.{Kit, board_at, with_board}
 use Rattle.memory.specs.Reached.{Reached, started, onward}
 
@@ -64,7 +64,7 @@ move d (Load board address) = turn (asks_access d board address) Accessed board 
 move d (Store board address word) = turn (asks_access d board address) Accessed board (store_at (board_at d.kit board) address word) d.kit d.messages
 move d (Deliver pick) = arrive d (picked d pick) (left d pick)
 
-abbrev event_of : Call → Move → Event
+abbrev pub event_of : Call → Move → Event
 event_of c m = record { call = c; answer = Ok m.answer; posted = m.posted }
 
 abbrev pub history : Desk → List Call → History
@@ -144,3 +144,20 @@ goes_on limit most start h d (c ∷ cs) r g reached =
 -- calls that are not refused have their history
 pub played : (limit most : ℕ) (d : Desk) (cs : List Call) → most + 16 ≤ limit → goes most d cs ≡ true → Reached (running limit d) (history d cs) (running limit (after d cs))
 played limit most d cs r g = goes_on limit most (running limit d) [] d cs r g started
+
+-- calls played one list after another
+pub history_append : (d : Desk) (cs ds : List Call) → history d (cs ++ ds) ≡ history d cs ++ history (after d cs) ds
+history_append d [] ds = refl
+history_append d (c ∷ cs) ds = ap (λ h. event_of c (move d c) ∷ h) (history_append (move d c).after cs ds)
+
+pub after_append : (d : Desk) (cs ds : List Call) → after d (cs ++ ds) ≡ after (after d cs) ds
+after_append d [] ds = refl
+after_append d (c ∷ cs) ds = after_append (move d c).after cs ds
+
+pub length_history : (d : Desk) (cs : List Call) → length (history d cs) ≡ length cs
+length_history d [] = refl
+length_history d (c ∷ cs) = omega (arith, length_history (move d c).after cs)
+
+pub only_deliveries : (d : Desk) (times pick : ℕ) → OnlyDeliveries (history d (replicate times (Deliver pick)))
+only_deliveries d zero pick = tt
+only_deliveries d (suc times) pick = (tt, only_deliveries (move d (Deliver pick)).after times pick)

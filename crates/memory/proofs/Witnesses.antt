@@ -1,21 +1,19 @@
 -- Kits that are played: their histories show what the promise allows, and what it cannot do without.
-use Rattle.std.proofs.Common.{◌≡◌, ℕ, ◌+◌, ◌*◌, ◌≤◌, true, List, [], ◌∷◌, Some, None, refl, arith, lit≤}
-use Rattle.std.proofs.lemmas.Bool.Decides.{nat_tests}
+use Rattle.std.proofs.Common.{◌≡◌, ℕ, ◌+◌, ◌*◌, ◌≤◌, true, List, [], ◌∷◌, refl, arith}
 use Rattle.board.specs.declared.request.AccessKind.TheVariants as kind
 use Rattle.memory.specs.declared.call.Call.{Call}
 use Rattle.memory.specs.declared.call.Call.TheVariants.{Load, Store, Deliver}
-use Rattle.memory.specs.Histories.{store}
 use Rattle.memory.specs.Kits.{start_kit}
 use Rattle.memory.specs.Reached.{MayBegin, begun, Reached}
 use Rattle.memory.specs.Calls.{Running}
-use Rattle.memory.specs.Witnesses.{BringsFromAnother, BringsWhatAnotherStored, PassedOn, PassesOnOnce, TakesAll, NeedsAllDeliveries, PassedOnIsSharp, DeliveriesAreSharp}
+use Rattle.memory.specs.Witnesses.{BringsFromAnother, BringsWhatAnotherStored, PassedOn, PassesOnOnce, TakesAll, NeedsAllDeliveries}
 use Rattle.memory.proofs.Playing.{Desk, history, after, goes, running, played}
 
 -- a kit of n boards and one page, to be played on
-abbrev desk : ℕ → Desk
+abbrev pub desk : ℕ → Desk
 desk n = record { kit = start_kit n 1; messages = [] }
 
-possible : (n : ℕ) (cs : List Call) → goes (n * n) (desk n) cs ≡ true → (limit : ℕ) → MayBegin n 1 limit [] → (s : Running) × Reached (begun n 1 limit []) (history (desk n) cs) s
+pub possible : (n : ℕ) (cs : List Call) → goes (n * n) (desk n) cs ≡ true → (limit : ℕ) → MayBegin n 1 limit [] → (s : Running) × Reached (begun n 1 limit []) (history (desk n) cs) s
 possible n cs g limit b = (running limit (after (desk n) cs), played limit (n * n) (desk n) cs b.room g)
 
 -- board 0 stores at once, and sends board 1 a copy
@@ -62,10 +60,21 @@ pub passes_on_once : PassesOnOnce
 passes_on_once = (history (desk 3) passing, passes, possible 3 passing refl)
 
 -- board 1 is granted the page, and its store is open until the grant arrives
-abbrev waiting : List Call
+abbrev pub waiting : List Call
 waiting = Store 1 3 42 ∷ Deliver 0 ∷ Deliver 0 ∷ []
 
-takes_all : TakesAll 2 (history (desk 2) waiting)
+pub waits : PassedOn 0 (history (desk 2) waiting)
+waits = record {
+  finished = record { board = 1; kind = kind.Store; address = 3; word = 42; hops = 0 };
+  before = _ ∷ _ ∷ [];
+  finish = _;
+  told = refl;
+  finishes = (tt, refl);
+  passed = refl;
+  hops = refl;
+}
+
+pub takes_all : TakesAll 2 (history (desk 2) waiting)
 takes_all = record {
   before = _ ∷ [];
   deliveries = _ ∷ [];
@@ -76,26 +85,11 @@ takes_all = record {
   still_open = refl;
   delivers = tt;
   all = refl;
-  nothing_open = λ b. grind (arith, nat_tests);
+  none_open = refl;
 }
 
 pub needs_all_deliveries : NeedsAllDeliveries
 needs_all_deliveries = (history (desk 2) waiting, takes_all, possible 2 waiting refl)
 
-may_begin : (n : ℕ) → 1 ≤ n → n ≤ 16 → MayBegin n 1 (n * n + 16) []
+pub may_begin : (n : ℕ) → 1 ≤ n → n ≤ 16 → MayBegin n 1 (n * n + 16) []
 may_begin n some few = record { some_boards = some; boards = few; some_pages = omega arith; pages = omega arith; room = omega arith; in_range = tt }
-
-pub passed_on_is_sharp : PassedOnIsSharp
-passed_on_is_sharp promise =
-    let w = possible 3 passing refl 25 (may_begin 3 (omega arith) (omega arith)) in
-    let kept = promise 3 1 25 [] (may_begin 3 (omega arith) (omega arith)) (history (desk 3) passing) w.0 w.1 in
-    omega (arith, (kept.right (_ ∷ _ ∷ _ ∷ _ ∷ []) _ (_ ∷ _ ∷ []) refl).passes 2)
-
-some_is_none : {X : Type 0} (x : X) → Some x ≡ None → ⊥
-some_is_none x h = cc
-
-pub deliveries_are_sharp : DeliveriesAreSharp
-deliveries_are_sharp promise =
-    let w = possible 2 waiting refl 20 (may_begin 2 (omega arith) (omega arith)) in
-    let kept = promise 2 1 20 [] (may_begin 2 (omega arith) (omega arith)) (history (desk 2) waiting) w.0 w.1 in
-    some_is_none (store 3 42) (kept.in_time (_ ∷ []) (_ ∷ []) (_ ∷ []) refl (tt, tt) (lit≤ tt) 1)

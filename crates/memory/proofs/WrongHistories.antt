@@ -3,9 +3,10 @@ use Rattle.std.proofs.Common.{◌≡◌, ℕ, ◌-◌, [], ◌∷◌, ◌++◌, 
 use Rattle.std.proofs.lemmas.Bool.Decides.{nat_tests}
 use Rattle.memory.specs.declared.call.Call.TheVariants.{Load, Store}
 use Rattle.memory.specs.Histories.{Event, History, load, kind_of, address_of}
-use Rattle.memory.specs.Ledgers.{Ledger, brought, entered, entering, ledger, fresh}
+use Rattle.memory.specs.Ledgers.{brought, entered, ledger, fresh}
 use Rattle.memory.specs.OneMemory.{OneMemory, Right}
 use Rattle.memory.specs.Placements.{Words}
+use Rattle.memory.proofs.Entering.{last_entered}
 use Rattle.memory.specs.WrongHistories.{WordsAreTold, OpeningsAreTold, FinishesAreTold, AnswersAreTold, BoundsAreTold, WrongHistoriesAreTold, at_once, finishing}
 
 some_is_none : {X : Type 0} (x : X) → Some x ≡ None → ⊥
@@ -13,11 +14,6 @@ some_is_none x h = cc
 
 the_same : {X : Type 0} (x y : X) → Some x ≡ Some y → x ≡ y
 the_same x y h = cc
-
--- the ledger with the last of the events entered
-last_entered : (l : Ledger) (h : History) (e : Event) → entering l (h ++ e ∷ []) ≡ entered (entering l h) e
-last_entered l [] e = refl
-last_entered l (d ∷ h) e = last_entered (entered l d) h e
 
 module _ (first : Words) (before : History) where
   -- what is right of the event that comes next, and of the one after it

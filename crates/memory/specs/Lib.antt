@@ -9,3 +9,4 @@ pub mod Reached
 pub mod Promises
 pub mod Witnesses
 pub mod WrongHistories
+pub mod LeastBounds

@@ -9,7 +9,6 @@ use Rattle.memory.specs.declared.answer.Answer.TheVariants.{Accessed, Arrived}
 use Rattle.memory.specs.Calls.{Running}
 use Rattle.memory.specs.Histories.{Event, History, IsDelivery, OnlyDeliveries}
 use Rattle.memory.specs.Ledgers.{Ledger, ledger, open_accesses}
-use Rattle.memory.specs.OneMemory.{NothingOpen}
 use Rattle.memory.specs.Placements.{array}
 use Rattle.memory.specs.Promises.{IsOneMemoryWithin}
 use Rattle.memory.specs.Reached.{MayBegin, begun, Reached}
@@ -74,7 +73,7 @@ pub record TakesAll (n : ℕ) (history : History) : Type 0 where
   pub still_open : open_accesses n (kept (before ++ deliveries)) ≡ 1
   pub delivers : IsDelivery last.call
   pub all : length (deliveries ++ last ∷ []) ≡ 3 * n - 4
-  pub nothing_open : NothingOpen (kept history)
+  pub none_open : open_accesses n (kept history) ≡ 0
 
 abbrev pub NeedsAllDeliveries : Type 0
 NeedsAllDeliveries = OfSomeHistory 2 (TakesAll 2)

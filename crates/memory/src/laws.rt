@@ -1,6 +1,7 @@
 ghost use Rattle.memory.specs.Placements.{PlacedWords};
 ghost use Rattle.memory.specs.Promises.{IsOneMemory, IsWilling, NeverRefuses};
 ghost use Rattle.memory.specs.Witnesses.{BringsWhatAnotherStored, PassesOnOnce, NeedsAllDeliveries, PassedOnIsSharp, DeliveriesAreSharp};
+ghost use Rattle.memory.specs.LeastBounds.{PassesThroughAll, AllAreNeeded, BoundsAreLeast};
 ghost use Rattle.memory.specs.WrongHistories.{WrongHistoriesAreTold, RefusingIsOneMemory, RefusingIsNotWilling};
 
 /// A kit begins with the words that were placed, else zeros.
@@ -18,8 +19,11 @@ pub fn witnesses()
 {}
 
 /// The bounds of the promise cannot be lowered.
-#[tactic(auto, using(crate::proofs::Witnesses::passed_on_is_sharp, crate::proofs::Witnesses::deliveries_are_sharp))]
+#[tactic(auto, using(crate::proofs::LeastBounds::passes_through_all, crate::proofs::LeastBounds::all_are_needed, crate::proofs::LeastBounds::passed_on_is_sharp, crate::proofs::LeastBounds::deliveries_are_sharp))]
 pub fn sharp_bounds()
+    ensures passes { PassesThroughAll }
+    ensures needs { AllAreNeeded }
+    ensures least { BoundsAreLeast }
     ensures passed { PassedOnIsSharp }
     ensures deliveries { DeliveriesAreSharp }
 {}
