@@ -2,6 +2,13 @@ pub mod Placing
 pub mod Splits
 pub mod Earlier
 pub mod Carried
+pub mod Entering
+pub mod Playing
+pub mod Witnesses
+pub mod Chains
+pub mod LeastBounds
+pub mod WrongHistories
+pub mod Refusing
 pub mod model
 pub mod kept
 pub mod images

@@ -7,3 +7,6 @@ pub mod Willing
 pub mod Calls
 pub mod Reached
 pub mod Promises
+pub mod Witnesses
+pub mod WrongHistories
+pub mod LeastBounds
