@@ -5,3 +5,5 @@ pub mod Arrivals
 pub mod Bags
 pub mod Tables
 pub mod Posts
+pub mod Fitting
+pub mod Matches
