@@ -1,5 +1,5 @@
 -- What the model has of a running kit.
-use Rattle.std.proofs.Common.{◌≡◌, ℕ, ◌<◌, ◌≤◌, true, List, map, length, refl, ap, ◌∙◌, sym, subst, inl, inr, arith}
+use Rattle.std.proofs.Common.{◌≡◌, ℕ, ◌<◌, ◌≤◌, true, List, map, ap, ◌∙◌, sym, subst, inl, inr, arith}
 use Rattle.std.proofs.lemmas.Bool.{cases_eq}
 use Rattle.std.specs.List.{AllByRecursion as All}
 use Rattle.wire.specs.Bags.{Bag, ◌⊕◌}
@@ -7,7 +7,7 @@ use Rattle.wire.specs.declared.message.Message.{Message}
 use Rattle.board.specs.Boards.{BoardState}
 use Rattle.board.specs.declared.entry.PageEntry.{PageEntry}
 use Rattle.lone.specs.Forms.{lone_form}
-use Rattle.lone.specs.Lones.{Lone, after_step}
+use Rattle.lone.specs.Lones.{after_step}
 use Rattle.lone.specs.PostLaws.{GoodPost}
 use Rattle.lone.specs.Tables.{entry_at}
 use Rattle.memory.specs.Calls.{Running}

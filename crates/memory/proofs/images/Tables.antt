@@ -4,7 +4,7 @@ use Rattle.std.proofs.lemmas.Bool.{cases_eq}
 use Rattle.std.proofs.lemmas.List.{length-set, get_or-set_same, get_or-set_other}
 use Rattle.board.specs.Boards.{BoardState, start_state}
 use Rattle.board.specs.declared.entry.PageEntry.{PageEntry}
-use Rattle.lone.specs.Lones.{Lone, after_step}
+use Rattle.lone.specs.Lones.{after_step}
 use Rattle.lone.specs.Tables.{entry_at, no_entry}
 use Rattle.memory.specs.Kits.{Kit, state_at, table_of, board_at, with_board}
 

@@ -68,4 +68,8 @@ module _ {W : Type 0} {same : Mail W → Mail W → Bool} {n : ℕ} {l : Ledger 
         light = λ r x. upd_both (λ r g. weight n (g.journey x) ≤ 3 * n - 4) i.pages p (goes P b j) r
             (elim (cases_eq x w.who) [ inl q ↦ rw q w.now | inr q ↦ rw (w.others x q) (i.light p x) ])
             (λ _. i.light r x);
+        bound = λ x. elim (cases_eq x b) [
+          | inl q ↦ let v : upd (more_passed l ms) b (requests b ms - 1) x ≡ 0 = ap (upd (more_passed l ms) b (requests b ms - 1)) q ∙ upd_same (more_passed l ms) b (requests b ms - 1) ∙ none_mine in omega (arith, v)
+          | inr q ↦ let v : upd (more_passed l ms) b (requests b ms - 1) x ≡ more_passed l ms x = upd_other (more_passed l ms) b (requests b ms - 1) x q in omega (arith, v, i.bound x, none_else x q)
+        ];
       }

@@ -1,4 +1,4 @@
-use Rattle.std.proofs.Common.{◌≡◌, ℕ, zero, suc, ◌+◌, ◌-◌, ◌*◌, ◌<◌, ◌≤◌, Bool, true, ◌⊎◌, List, sym, refl, ap, ◌∙◌, inl, inr, arith}
+use Rattle.std.proofs.Common.{◌≡◌, ℕ, zero, suc, ◌+◌, ◌-◌, ◌*◌, ◌<◌, ◌≤◌, Bool, true, sym, refl, ap, ◌∙◌, inl, inr, arith}
 use Rattle.std.proofs.lemmas.Bool.{cases_eq, both_ways}
 use Rattle.memory.proofs.kept.Sets.{facts}
 use Rattle.memory.proofs.model.Sums.{bit}
@@ -10,11 +10,11 @@ use Rattle.memory.proofs.model.Kit.{absent, Stage, closed, Seat, Post, Kit, open
 use Rattle.memory.proofs.model.Kit.{Equality}
 use Rattle.memory.proofs.kept.Cells.{taken_flies}
 use Rattle.memory.proofs.model.Weights.{weight}
-use Rattle.memory.proofs.model.History.{call_deliver, Said, Ledger, after, Does, delivers_it, delivers_none, Reached, Drains, no_more, one_more, is_open, opens_count}
+use Rattle.memory.proofs.model.History.{Ledger, is_open, opens_count}
 use Rattle.memory.proofs.model.Weights.{heft}
 use Rattle.memory.proofs.model.Sums.{sum_to}
-use Rattle.memory.proofs.kept.Histories.{Kept, delivered, left_of}
-use Rattle.memory.proofs.kept.Memory.{quiet_none, nothing_new, reached_kept, not_closed_busy, open_here, stage_cases}
+use Rattle.memory.proofs.kept.Histories.{Kept, left_of}
+use Rattle.memory.proofs.kept.Memory.{not_closed_busy, open_here, stage_cases}
 use Rattle.memory.proofs.kept.Summed.{sum_le}
 
 pub sum_part : (n i : ℕ) (f : ℕ → ℕ) → i < n → f i ≤ sum_to n f
@@ -110,21 +110,3 @@ module _ {W : Type 0} {same : Mail W → Mail W → Bool} {n : ℕ} {l : Ledger 
 
       on_shut : (s : Seat W) (p : ℕ) → s.stage ≡ closed → open_on s p ≡ closed
       on_shut s p e = grind (arith, facts)
-
--- each delivery takes from what is left, until nothing is open
-next_drain : {W : Type 0} {same : Mail W → Mail W → Bool} {n : ℕ} {h : Ledger W} {j : Kit W} → Equality same → (z : Kept same n h j) (m c : ℕ) → (left_of z + c ≤ m) ⊎ ((x : ℕ) → h.opens x ≡ absent) → {s : Said W} {ms : List (Mail W)} {g : Kit W} → Does n j call_deliver s ms g → (y : Kept same n (after h call_deliver s ms) g) × ((left_of y + suc c ≤ m) ⊎ ((x : ℕ) → (after h call_deliver s ms).opens x ≡ absent))
-next_drain law z m c (inl b) (delivers_it p x rest r e is) = let d = delivered law z p x rest e r is in (d.0, inl (omega (arith, d.2)))
-next_drain law z m c (inr b) (delivers_it p x rest r e is) = absurd (shut_empty z law b p x rest e)
-next_drain law z m c b (delivers_none e) = (nothing_new z, inr (quiet_none law z e))
-
-pub drains : {W : Type 0} {same : Mail W → Mail W → Bool} {n : ℕ} {l : Ledger W} {k : Kit W} → Equality same → (i : Kept same n l k) → {c : ℕ} {h : Ledger W} {j : Kit W} → Drains n l k c h j → (z : Kept same n h j) × ((left_of z + c ≤ left_of i) ⊎ ((x : ℕ) → h.opens x ≡ absent))
-drains law i no_more = (i, inl (omega arith))
-drains law i (one_more {c = c} r d) = let q = drains law i r in next_drain law q.0 (left_of i) c q.1 d
-
--- after 3n - 4 deliveries for each open access nothing is open
-pub all_end : {W : Type 0} {same : Mail W → Mail W → Bool} {n : ℕ} {v : ℕ → W} {l h : Ledger W} {k j : Kit W} {c : ℕ} → Equality same → 0 < n → Reached n v l k → Drains n l k c h j → (3 * n - 4) * opens_count n l ≤ c → (x : ℕ) → h.opens x ≡ absent
-all_end {n = n} {l = l} law lt r d enough x =
-    let i = reached_kept law lt r in
-    let q = drains law i d in
-    let b = left_bound i in
-    elim q.1 [ inl le ↦ none_left q.0 (omega arith) x | inr all ↦ all x ]

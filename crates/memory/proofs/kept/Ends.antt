@@ -4,9 +4,8 @@ use Rattle.memory.proofs.kept.Sets.{facts}
 use Rattle.memory.proofs.model.Board.{Kind, Req}
 use Rattle.memory.proofs.model.Page.{deferred, Journey, home, asking, queued, copied, granted, clearing, Page, busy, place, is_clearing, mark, occ}
 use Rattle.memory.proofs.model.Invariant.{Holders, Inv}
-use Rattle.memory.proofs.model.Weights.{quiet_mark, all_below, silent, NoDeadlock}
+use Rattle.memory.proofs.model.Weights.{quiet_mark, all_below, silent}
 use Rattle.memory.proofs.kept.Trees.{walk}
-use Rattle.memory.proofs.kept.Steps.{run_inv}
 
 -- a test that fails somewhere below n, or holds everywhere there
 look : (n : ℕ) (f : ℕ → Bool) → ((y : ℕ) × (y < n) × (f y ≡ false)) ⊎ ((y : ℕ) → y < n → f y ≡ true)
@@ -69,6 +68,3 @@ module _ {W : Type 0} (n : ℕ) (v : W) (p : Page W) (i : Inv n v p) (rest : (y 
 
   pub stuck : (x : ℕ) → x < n → busy (p.journey x) ≡ true → ⊥
   stuck x l b = root_stuck (walk Busy on (i.core.ways.tree x l) (l, b)) (p.journey p.root) refl
-
-pub no_deadlock : {W : Type 0} → NoDeadlock W
-no_deadlock n v m p l r x k b = elim (look n (λ y. silent n (p.journey y))) [ inl w ↦ w | inr h ↦ absurd (stuck n m p (run_inv l r) h x k b) ]

@@ -1,5 +1,5 @@
 use Rattle.std.proofs.Common.{◌≡◌, ℕ, ◌+◌, ◌-◌, ◌*◌, ◌<◌, ◌≤◌, Bool, true, false, ◌⊎◌, List, sym, refl, ap, ◌∙◌, subst, inl, inr, arith}
-use Rattle.std.proofs.lemmas.Bool.{cases_eq}
+use Rattle.std.proofs.lemmas.Bool.{cases_eq, cases_Bool}
 use Rattle.memory.proofs.kept.Sets.{facts}
 use Rattle.memory.proofs.model.Sums.{upd}
 use Rattle.memory.proofs.model.Board.{load, store, Entry, Mail}
@@ -27,6 +27,7 @@ pub record Kept {W : Type 0} (same : Mail W → Mail W → Bool) (n : ℕ) (l : 
   pub opens : (x : ℕ) → l.opens x ≡ op_of (k.board x).seat
   pub passed : (x : ℕ) → busy ((pages (k.board x).seat.page).journey x) ≡ true → l.passed x ≡ far ((pages (k.board x).seat.page).journey x)
   pub light : (p x : ℕ) → weight n ((pages p).journey x) ≤ 3 * n - 4
+  pub bound : (x : ℕ) → l.passed x ≤ n - 2
 
 -- what is left to do
 abbrev pub left_of : {W : Type 0} {same : Mail W → Mail W → Bool} {n : ℕ} {l : Ledger W} {k : Kit W} → Kept same n l k → ℕ
@@ -96,6 +97,19 @@ module _ {W : Type 0} {same : Mail W → Mail W → Bool} {k : Kit W} {pages : �
         | inr h ↦ let z : upd pages p q (k.board x).seat.page ≡ pages (k.board x).seat.page = upd_other pages p q (k.board x).seat.page h in
             rw z (λ on. omega (arith, passed_is x on, calm x (not_here x h)))
       ])
+
+  -- nobody's request is passed on more often than may be, whether its access is open or over
+  bound_after : (n : ℕ) (v : ℕ → W) (l : ℕ → ℕ) → ((x : ℕ) → l x ≤ n - 2) → ((r : ℕ) → Inv n (v r) (upd pages p q r))
+      → ((x : ℕ) → busy ((upd pages p q (new x).seat.page).journey x) ≡ true → l x + requests x ms ≡ far ((upd pages p q (new x).seat.page).journey x))
+      → ((x : ℕ) → busy (q.journey x) ≡ false → requests x ms ≡ 0)
+      → (x : ℕ) → l x + requests x ms ≤ n - 2
+  bound_after n v l was each passed calm x = elim (cases_Bool (busy ((upd pages p q (new x).seat.page).journey x))) [
+    | inl on ↦ omega (arith, passed x on, ((each (new x).seat.page).core.ways.askers x on).bound)
+    | inr off ↦ elim (cases_eq (k.board x).seat.page p) [
+      | inl h ↦ let here : upd pages p q (new x).seat.page ≡ q = ap (upd pages p q) (page_same x ∙ h) ∙ upd_same pages p q in omega (arith, was x, calm x (sym (ap (λ (g : Page W). busy (g.journey x)) here) ∙ off))
+      | inr h ↦ omega (arith, was x, calm x (not_here x h))
+    ]
+  ]
 
   opens_after : (l : ℕ → Maybe (Open W)) → ((x : ℕ) → l x ≡ op_of (k.board x).seat) → (x : ℕ) → upd l b (op_of s) x ≡ op_of (new x).seat
   opens_after l is x = elim (cases_eq x b) [
@@ -183,14 +197,17 @@ module _ {W : Type 0} {same : Mail W → Mail W → Bool} {n : ℕ} {l : Ledger 
 
   by_answer : (d : Answer W) (s : Seat W) (e : Entry W) (ms : List (Mail W)) (q : Page W) → Delivery P d q → s.page ≡ old.page → Tale d old s b p P ms → ((x : ℕ) → busy (q.journey x) ≡ true → far (q.journey x) ≡ far (P.journey x) + requests x ms) → ((x : ℕ) → busy (q.journey x) ≡ false → requests x ms ≡ 0) → Told same (becomes k b p s e ms rest) (upd i.pages p q) → Goal s e ms d
   by_answer nothing s e ms q mv sp tale hops calm u =
-      let st = step_kept (i.each p) {q = q} (delivers mv) in (
+      let st = step_kept (i.each p) {q = q} (delivers mv) in
+      let each = each_after l.memory (l.memory p) q st.0 refl (λ r _. refl) in
+      let passed = passed_after i.told b p s e ms q rest u sp l.passed i.passed (inl tale) hops calm in (
         record {
           pages = upd i.pages p q;
           told = u;
-          each = each_after l.memory (l.memory p) q st.0 refl (λ r _. refl);
+          each = each;
           opens = λ x. sym (upd_self_at l.opens b (op_of s) (tale ∙ sym (i.opens b)) x) ∙ opens_after i.told b p s e ms q rest u sp l.opens i.opens x;
-          passed = passed_after i.told b p s e ms q rest u sp l.passed i.passed (inl tale) hops calm;
+          passed = passed;
           light = light_after q (delivery_falls (i.each p) mv);
+          bound = bound_after i.told b p s e ms q rest u sp n l.memory l.passed i.bound each passed calm;
         },
         tt,
         lighter s e ms q mv sp u,
@@ -199,14 +216,17 @@ module _ {W : Type 0} {same : Mail W → Mail W → Bool} {n : ℕ} {l : Ledger 
       let st = step_kept (i.each p) {q = q} (delivers mv) in
       let is_open : l.opens a ≡ just (op_load p) = ap l.opens tale.0 ∙ i.opens b ∙ tale.1 in
       let mem_is : stored (l.opens a) l.memory ≡ l.memory = ap (λ z. stored z l.memory) is_open in
-      let pg : old.page ≡ p = here_of (op_load p) p tale.1 (inl refl) in (
+      let pg : old.page ≡ p = here_of (op_load p) p tale.1 (inl refl) in
+      let each = each_after l.memory (l.memory p) q st.0 refl (λ r _. refl) in
+      let passed = passed_after i.told b p s e ms q rest u sp l.passed i.passed (inr tale.2) hops calm in (
         record {
           pages = upd i.pages p q;
           told = u;
-          each = rw mem_is (each_after l.memory (l.memory p) q st.0 refl (λ r _. refl));
+          each = rw mem_is each;
           opens = λ x. ap (λ z. upd l.opens z absent x) tale.0 ∙ ap (λ z. upd l.opens b z x) (sym tale.2) ∙ opens_after i.told b p s e ms q rest u sp l.opens i.opens x;
-          passed = passed_after i.told b p s e ms q rest u sp l.passed i.passed (inr tale.2) hops calm;
+          passed = passed;
           light = light_after q (delivery_falls (i.each p) mv);
+          bound = bound_after i.told b p s e ms q rest u sp n l.memory l.passed i.bound each passed calm;
         },
         (p, is_open, st.1.0, omega (arith, tale.3, tale.4, passed_at a (op_load p) pg tale.0 tale.1), st.1.1),
         lighter s e ms q mv sp u,
@@ -215,14 +235,18 @@ module _ {W : Type 0} {same : Mail W → Mail W → Bool} {n : ℕ} {l : Ledger 
       let st = step_kept (i.each p) {q = q} (delivers mv) in
       let is_open : l.opens a ≡ just (op_store p f) = ap l.opens tale.0 ∙ i.opens b ∙ tale.1 in
       let mem_is : stored (l.opens a) l.memory ≡ upd l.memory p (f (l.memory p)) = ap (λ z. stored z l.memory) is_open in
-      let pg : old.page ≡ p = here_of (op_store p f) p tale.1 (inr (f, refl)) in (
+      let pg : old.page ≡ p = here_of (op_store p f) p tale.1 (inr (f, refl)) in
+      let memory : ℕ → W = upd l.memory p (f (l.memory p)) in
+      let each = each_after memory (f (l.memory p)) q st.0 (upd_same l.memory p (f (l.memory p))) (λ r ne. upd_other l.memory p (f (l.memory p)) r ne) in
+      let passed = passed_after i.told b p s e ms q rest u sp l.passed i.passed (inr tale.2) hops calm in (
         record {
           pages = upd i.pages p q;
           told = u;
-          each = rw mem_is (each_after (upd l.memory p (f (l.memory p))) (f (l.memory p)) q st.0 (upd_same l.memory p (f (l.memory p))) (λ r ne. upd_other l.memory p (f (l.memory p)) r ne));
+          each = rw mem_is each;
           opens = λ x. ap (λ z. upd l.opens z absent x) tale.0 ∙ ap (λ z. upd l.opens b z x) (sym tale.2) ∙ opens_after i.told b p s e ms q rest u sp l.opens i.opens x;
-          passed = passed_after i.told b p s e ms q rest u sp l.passed i.passed (inr tale.2) hops calm;
+          passed = passed;
           light = light_after q (delivery_falls (i.each p) mv);
+          bound = bound_after i.told b p s e ms q rest u sp n memory l.passed i.bound each passed calm;
         },
         (p, f, is_open, omega (arith, tale.3, tale.4, passed_at a (op_store p f) pg tale.0 tale.1), st.1),
         lighter s e ms q mv sp u,

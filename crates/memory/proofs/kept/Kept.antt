@@ -2,7 +2,7 @@ use Rattle.std.proofs.Common.{◌≡◌, ℕ, ◌+◌, ◌<◌, ◌≤◌, Bool,
 use Rattle.std.proofs.lemmas.Bool.{cases_eq, cases_Bool, both_ways}
 use Rattle.std.proofs.lemmas.Bool.Decides.{nat_tests}
 use Rattle.memory.proofs.model.Sums.{upd}
-use Rattle.memory.proofs.model.Tree.{Reach, here, step, Turned, State, Trail, Asker, Inv, opened, passed_on, granted, closed, first, Step, open_at, forward, grant, close_at, Run, start, more, FindBound}
+use Rattle.memory.proofs.model.Tree.{Reach, here, step, Turned, State, Trail, Asker, Inv, opened, passed_on, granted, closed, first}
 use Rattle.memory.proofs.kept.Summed.{upd_other, upd_both, count_more, count_room, count_none}
 use Rattle.memory.proofs.kept.Trees.{reach_fixed, keeps, keeps_root, comes, no_cycle}
 
@@ -98,12 +98,6 @@ grant_kept {n} {s} a i is at ne idle =
       askers = λ b e. asker_on (λ x r. keeps_root t (λ q. both_ways (s.asked b) (ap s.asked q ∙ idle) e) i.root_fix r) (i.askers b e);
     }
 
-step_kept : {n : ℕ} {s t : State} → Inv n s → Step n s t → Inv n t
-step_kept i (open_at a l no_ask ne) = open_kept a i l (let k = i.root_in in omega arith)
-step_kept i (forward a u is at ne nr idle) = forward_kept a u i is at ne nr idle
-step_kept i (grant a is at ne idle) = grant_kept a i is at ne idle
-step_kept i (close_at a) = close_kept a i
-
 pub first_inv : {n : ℕ} → 0 < n → Inv n first
 first_inv l = record {
   root_in = l;
@@ -112,10 +106,3 @@ first_inv l = record {
   tree = λ x k. step refl (here refl);
   askers = λ a e. absurd (both_ways false refl e);
 }
-
-run_inv : {n : ℕ} {s : State} → 0 < n → Run n s → Inv n s
-run_inv l start = first_inv l
-run_inv l (more r k) = step_kept (run_inv l r) k
-
-pub find_bound : FindBound
-find_bound n l s r a e = ((run_inv l r).askers a e).bound

@@ -6,15 +6,13 @@ use Rattle.memory.proofs.model.Sums.{upd, bit}
 use Rattle.memory.proofs.model.Board.{write, load, store, Entry, Mail, request, copy, grant, invalidate, acknowledge, store_entry}
 use Rattle.memory.proofs.model.Page.{Mark, unmarked, sent, deferred, acked, Journey, home, asking, queued, copied, granted, clearing, Page, is_none, busy, far, cover, holder, marks}
 use Rattle.memory.proofs.model.Steps.{goes, stored_at, ask_load, ask_store, clear}
-use Rattle.wire.specs.Bags.{Bag, ◌&◌}
-use Rattle.memory.proofs.model.Kit.{absent, Stage, closed, asked, clears, Seat, Board, Post, Kit, refused, none_below, invalidates, open_on, stage_of, flies, times, Told, becomes, arrives, opened_seat, requests, op_load, op_store, op_by, op_of}
+use Rattle.memory.proofs.model.Kit.{absent, Stage, closed, asked, clears, Seat, Board, Kit, none_below, invalidates, open_on, stage_of, flies, times, Told, becomes, opened_seat, requests, op_load, op_store, op_by, op_of}
 use Rattle.memory.proofs.model.Kit.{Equality}
 use Rattle.wire.specs.Bags.{empty as no_mail}
 use Rattle.memory.proofs.model.Steps.{MayStore, store_now}
-use Rattle.memory.proofs.model.History.{Order, Said, Ledger, unchanged, after, Good, Does, loads_now, loads_later, stores_now, stores_clearing, stores_later, delivers_it, delivers_none, first_ledger, first_kit, Reached, start, then}
+use Rattle.memory.proofs.model.History.{Order, Said, Ledger, unchanged, after, Good, Does, loads_now, loads_later, stores_now, stores_clearing, stores_later, delivers_it, delivers_none, first_ledger, first_kit}
 use Rattle.memory.proofs.kept.Summed.{upd_same, upd_other, upd_both}
 use Rattle.memory.proofs.kept.Steps.{step_kept, start_inv}
-use Rattle.memory.proofs.kept.Delivered.{deliver_sim}
 use Rattle.memory.proofs.kept.Called.{ask_told, clear_told, now_told}
 use Rattle.memory.proofs.model.Weights.{silent, quiet_mark, all_below, start as first_page}
 use Rattle.memory.proofs.kept.Moves.{own}
@@ -69,7 +67,7 @@ module _ {W : Type 0} (same : Mail W → Mail W → Bool) (law : Equality same) 
 
 -- an event that changes nothing
 pub nothing_new : {W : Type 0} {same : Mail W → Mail W → Bool} {n : ℕ} {l : Ledger W} {k : Kit W} → Kept same n l k → Kept same n (unchanged l []) k
-nothing_new {l = l} i = record { pages = i.pages; told = i.told; each = i.each; opens = i.opens; passed = λ x on. omega (arith, i.passed x on); light = i.light }
+nothing_new {l = l} i = record { pages = i.pages; told = i.told; each = i.each; opens = i.opens; passed = λ x on. omega (arith, i.passed x on); light = i.light; bound = λ x. omega (arith, i.bound x) }
 
 upd_self_at : {X : Type 0} (f : ℕ → X) (b : ℕ) (v : X) → v ≡ f b → (x : ℕ) → upd f b v x ≡ f x
 upd_self_at f b v e x = grind (arith, facts)
@@ -191,6 +189,7 @@ module _ {W : Type 0} {same : Mail W → Mail W → Bool} {n : ℕ} {l : Ledger 
               let y : (upd i.pages p g (upd k.board b z x).seat.page).journey x ≡ (i.pages (k.board x).seat.page).journey x = ap (λ (s : Seat W). (upd i.pages p g s.page).journey x) (seats x) ∙ still (k.board x).seat.page x in
               omega (arith, i.passed x (sym (ap busy y) ∙ on), ap far y);
           light = λ r x. rw (still r x) (i.light r x);
+          bound = λ x. omega (arith, i.bound x);
         },
         tt,
       )
@@ -198,29 +197,13 @@ module _ {W : Type 0} {same : Mail W → Mail W → Bool} {n : ℕ} {l : Ledger 
   does_kept (delivers_none e) = (nothing_new i, quiet_none e)
 
 -- a kit just started
-start_kept : {W : Type 0} (same : Mail W → Mail W → Bool) (n : ℕ) (v : ℕ → W) → 0 < n → Kept same n (first_ledger v) (first_kit v)
-start_kept same n v l = record {
-  pages = λ p. first_page (v p);
+pub start_kept : {W : Type 0} (same : Mail W → Mail W → Bool) (n : ℕ) (idle : W) (v : ℕ → W) → 0 < n → Kept same n (first_ledger v) (first_kit idle v)
+start_kept same n idle v l = record {
+  pages = λ p. first_page idle (v p);
   told = record { entries = λ x p. refl; stages = λ x p. grind (arith, facts); awaiting = λ x y. refl; waitings = λ x p. grind (arith, facts); deferrals = λ x. refl; mails = λ p x. refl };
-  each = λ p. start_inv n (v p) l;
+  each = λ p. start_inv n idle (v p) l;
   opens = λ x. refl;
   passed = λ x e. absurd (both_ways false refl e);
   light = λ p x. omega arith;
+  bound = λ x. omega arith;
 }
-
-pub reached_kept : {W : Type 0} {same : Mail W → Mail W → Bool} {n : ℕ} {v : ℕ → W} {l : Ledger W} {k : Kit W} → Equality same → 0 < n → Reached n v l k → Kept same n l k
-reached_kept {same = same} {n = n} {v = v} law lt start = start_kept same n v lt
-reached_kept law lt (then r d) = (does_kept law (reached_kept law lt r) d).0
-
--- every event of every history is right
-pub one_memory : {W : Type 0} {same : Mail W → Mail W → Bool} {n : ℕ} {v : ℕ → W} {l : Ledger W} {k j : Kit W} {c : Order W} {s : Said W} {ms : List (Mail W)} → Equality same → 0 < n → Reached n v l k → Does n k c s ms j → Good n l c s ms
-one_memory law lt r d = (does_kept law (reached_kept law lt r) d).1
-
--- no message that waits is refused
-pub never_refused : {W : Type 0} {same : Mail W → Mail W → Bool} {n : ℕ} {v : ℕ → W} {l : Ledger W} {k : Kit W} → Equality same → 0 < n → Reached n v l k → (p : ℕ) (m : Mail W) (rest : Bag (Post W)) → k.link ≡ record { page = p; mail = m } & rest → arrives n k p m ≡ refused → ⊥
-never_refused {same = same} {n = n} {l = l} {k = k} law lt r p m rest e bad =
-    let i = reached_kept law lt r in
-    let s = deliver_sim same law n (l.memory p) k i.pages i.told p (i.each p) rest m e in
-    let z = s.replied in
-    let y : ◌≡◌ {A = ℕ} 0 1 = cc in
-    omega arith

@@ -5,7 +5,7 @@ use Rattle.memory.proofs.model.Page.{Mark, deferred, Journey, home, asking, queu
 use Rattle.memory.proofs.model.Invariant.{Holders, Tables, Data, Core, Inv}
 use Rattle.memory.proofs.kept.Kept.{first_inv}
 use Rattle.memory.proofs.model.Steps.{stored_at, MayStore, Serving, empty, Call, ask_load, ask_store, clear, Move, joins, served, grant_in, defers, drops, acks, Loaded, copy_in, copy_then_drop, Stores, grant_free, last_ack, Answer, moves, loads, stores, Step, opens, load_now, store_now, delivers}
-use Rattle.memory.proofs.model.Weights.{fed, Right, start, Run, begin, then, OneMemory, HopsBound}
+use Rattle.memory.proofs.model.Weights.{fed, Right, start}
 use Rattle.memory.proofs.kept.Moves.{ask_core, no_access, no_owner, own, clear_core, stored_core, joined_core, copy_core, copy_drop_core, grant_core, defer_core, drop_core, ack_core}
 use Rattle.memory.proofs.kept.Lists.{serves_one, serves_all}
 
@@ -101,8 +101,8 @@ module _ {W : Type 0} {n : ℕ} {v : W} {p : Page W} (i : Inv n v p) where
   step_kept (delivers (loads a h w l more)) = (loaded_kept a h w l more, loaded_right a h w l)
   step_kept (delivers (stores a h w f k more)) = let r = stores_ready a h w k in (stored_inv a h w f r more, r.bound)
 
-pub start_inv : {W : Type 0} (n : ℕ) (v : W) → 0 < n → Inv n v (start v)
-start_inv n v l = record {
+pub start_inv : {W : Type 0} (n : ℕ) (idle v : W) → 0 < n → Inv n v (start idle v)
+start_inv n idle v l = record {
   core = record {
     ways = first_inv l;
     holders = grind (arith, facts);
@@ -113,13 +113,3 @@ start_inv n v l = record {
   };
   free = λ u e. refl;
 }
-
-pub run_inv : {W : Type 0} {n : ℕ} {v m : W} {p : Page W} → 0 < n → Run n v m p → Inv n m p
-run_inv {n = n} {v = v} l begin = start_inv n v l
-run_inv l (then r s) = (step_kept (run_inv l r) s).0
-
-pub one_memory : {W : Type 0} → OneMemory W
-one_memory n v m p q d l r s = (step_kept (run_inv l r) s).1
-
-pub hops_bound : {W : Type 0} → HopsBound W
-hops_bound n v m p l r a e = ((run_inv l r).core.ways.askers a e).bound

@@ -9,12 +9,12 @@ use Rattle.memory.proofs.model.Page.{Mark, unmarked, deferred, acked, home, aski
 use Rattle.memory.proofs.model.Invariant.{Holders, Core, Inv}
 use Rattle.memory.proofs.model.Sums.{sum_to, count}
 use Rattle.memory.proofs.model.Steps.{stored_at, Serves, passes, copies_it, grants, Serving, empty, one, Call, ask_load, ask_store, clear, Move, joins, served, grant_in, defers, drops, acks, Loaded, copy_in, copy_then_drop, Stores, grant_free, last_ack, Answer, Delivery, moves, loads, stores}
-use Rattle.memory.proofs.model.Weights.{heft, weight, left, Falls, Opens, DeliveriesFall, CallsWeigh}
+use Rattle.memory.proofs.model.Weights.{heft, weight, left, Falls, Opens}
 use Rattle.memory.proofs.kept.Summed.{upd_same, upd_other, sum_one, sum_le, count_le, count_more, count_room}
 use Rattle.memory.proofs.kept.Serve.{asker_in, owner}
 use Rattle.memory.proofs.kept.Moves.{no_access, own}
 use Rattle.memory.proofs.kept.Lists.{serves_one, popped, others_told}
-use Rattle.memory.proofs.kept.Steps.{loaded_core, ready_core, stores_ready, run_inv}
+use Rattle.memory.proofs.kept.Steps.{loaded_core, ready_core, stores_ready}
 
 pub sum_less : (n a : ℕ) (f g : ℕ → ℕ) → ((x : ℕ) → g x ≤ f x) → a < n → g a < f a → sum_to n g < sum_to n f
 sum_less zero a f g h l k = omega arith
@@ -155,9 +155,3 @@ module _ {W : Type 0} where
 
 pub falls_sum : {W : Type 0} {n : ℕ} {p q : Page W} → Falls n p q → left n q < left n p
 falls_sum {n = n} {p = p} {q = q} f = sum_less n f.who (λ x. weight n (p.journey x)) (λ x. weight n (q.journey x)) f.never f.who_in f.lighter
-
-pub deliveries_fall : {W : Type 0} → DeliveriesFall W
-deliveries_fall n v m p q d l r k = let f = delivery_falls (run_inv l r) k in (f, falls_sum f)
-
-pub calls_weigh : {W : Type 0} → CallsWeigh W
-calls_weigh n v m p q l r k = call_opens (run_inv l r) k

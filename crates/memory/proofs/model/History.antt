@@ -1,8 +1,8 @@
 -- What calls on a kit and their answers say of one memory, by the history alone.
-use Rattle.std.specs.Prelude.{◌≡◌, ℕ, suc, ◌+◌, ◌-◌, ◌*◌, ◌<◌, ◌≤◌, Bool, true, false, cond, ◌⊎◌, List, [], ◌∷◌, ◌==◌, ◌≢◌}
+use Rattle.std.specs.Prelude.{◌≡◌, ℕ, ◌+◌, ◌-◌, ◌<◌, ◌≤◌, Bool, true, false, cond, ◌⊎◌, List, [], ◌∷◌, ◌==◌, ◌≢◌}
 use Rattle.memory.proofs.model.Sets.{has, nobody}
 use Rattle.memory.proofs.model.Sums.{upd, sum_to, bit}
-use Rattle.wire.specs.Bags.{Bag, empty, ◌&◌, size}
+use Rattle.wire.specs.Bags.{Bag, empty, ◌&◌}
 use Rattle.memory.proofs.model.Board.{none, write, load, store, Mail, request, store_entry}
 use Rattle.memory.proofs.model.Page.{is_none}
 use Rattle.memory.proofs.model.Steps.{Answer, nothing, read_at, written_at}
@@ -118,24 +118,14 @@ module _ {W : Type 0} where
   abbrev pub first_ledger : (ℕ → W) → Ledger W
   first_ledger v = record { memory = v; opens = λ _. absent; passed = λ _. 0 }
 
-  abbrev pub first_kit : (ℕ → W) → Kit W
-  first_kit v = record {
+  abbrev pub first_kit : W → (ℕ → W) → Kit W
+  first_kit idle v = record {
     board = λ x. record {
       seat = record { page = 0; stage = closed; act = λ w. w; awaited = λ _. false; waiting = []; deferral = absent };
-      entry = λ p. record { access = cond (x == 0) write none; hint = 0; copies = nobody; words = v p };
+      entry = λ p. record { access = cond (x == 0) write none; hint = 0; copies = nobody; words = cond (x == 0) (v p) idle };
     };
     link = empty;
   }
-
-  -- a kit that calls led to, with what their history says
-  pub data Reached (n : ℕ) (v : ℕ → W) : Ledger W → Kit W → Type 0 where
-    start : Reached n v (first_ledger v) (first_kit v)
-    then : {l : Ledger W} {k j : Kit W} {c : Order W} {s : Said W} {ms : List (Mail W)} → Reached n v l k → Does n k c s ms j → Reached n v (after l c s ms) j
-
-  -- c deliveries one after another, whatever the link hands over
-  pub data Drains (n : ℕ) (l : Ledger W) (k : Kit W) : ℕ → Ledger W → Kit W → Type 0 where
-    no_more : Drains n l k 0 l k
-    one_more : {c : ℕ} {h : Ledger W} {j g : Kit W} {s : Said W} {ms : List (Mail W)} → Drains n l k c h j → Does n j call_deliver s ms g → Drains n l k (suc c) (after h call_deliver s ms) g
 
   abbrev pub is_open : Maybe (Open W) → Bool
   is_open absent = false
@@ -143,19 +133,3 @@ module _ {W : Type 0} where
 
   abbrev pub opens_count : ℕ → Ledger W → ℕ
   opens_count n l = sum_to n (λ x. bit (is_open (l.opens x)))
-
--- every event of every history is right: loads bring the memory's words, hops are those that were passed, a quiet kit has nothing open
-abbrev pub OneMemory : Type 0 → Type 0
-OneMemory W = (n : ℕ) (v : ℕ → W) (l : Ledger W) (k j : Kit W) (c : Order W) (s : Said W) (ms : List (Mail W)) → 0 < n → Reached n v l k → Does n k c s ms j → Good n l c s ms
-
-abbrev pub NeverRefused : Type 0 → Type 0
-NeverRefused W = (n : ℕ) (v : ℕ → W) (l : Ledger W) (k : Kit W) → 0 < n → Reached n v l k → (p : ℕ) (m : Mail W) (rest : Bag (Post W)) → k.link ≡ record { page = p; mail = m } & rest → arrives n k p m ≢ refused
-
-abbrev pub PassedBound : Type 0 → Type 0
-PassedBound W = (n : ℕ) (v : ℕ → W) (l : Ledger W) (k : Kit W) → 0 < n → Reached n v l k → (x : ℕ) → is_open (l.opens x) ≡ true → l.passed x + 2 ≤ n
-
-abbrev pub AllEnd : Type 0 → Type 0
-AllEnd W = (n : ℕ) (v : ℕ → W) (l h : Ledger W) (k j : Kit W) (c : ℕ) → 0 < n → Reached n v l k → Drains n l k c h j → (3 * n - 4) * opens_count n l ≤ c → (x : ℕ) → h.opens x ≡ absent
-
-abbrev pub LinkBound : Type 0 → Type 0
-LinkBound W = (n : ℕ) (v : ℕ → W) (l : Ledger W) (k : Kit W) → 0 < n → Reached n v l k → size k.link ≤ n * (n - 1)

@@ -51,18 +51,5 @@ granted s a = record { root = a; next = upd (upd s.next a a) s.root a; asked = s
 abbrev pub closed : State → ℕ → State
 closed s a = record { root = s.root; next = s.next; asked = upd s.asked a false; hops = upd s.hops a 0 }
 
-pub data Step (n : ℕ) (s : State) : State → Type 0 where
-  open_at : (a : ℕ) → a < n → s.asked a ≡ false → (a ≢ s.root) → Step n s (opened s a)
-  forward : (a u : ℕ) → s.asked a ≡ true → s.next a ≡ u → (u ≢ a) → (u ≢ s.root) → s.asked u ≡ false → Step n s (passed_on s a u)
-  grant : (a : ℕ) → s.asked a ≡ true → s.next a ≡ s.root → (s.root ≢ a) → s.asked s.root ≡ false → Step n s (granted s a)
-  close_at : (a : ℕ) → Step n s (closed s a)
-
 abbrev pub first : State
 first = record { root = 0; next = λ _. 0; asked = λ _. false; hops = λ _. 0 }
-
-pub data Run (n : ℕ) : State → Type 0 where
-  start : Run n first
-  more : {s t : State} → Run n s → Step n s t → Run n t
-
-abbrev pub FindBound : Type 0
-FindBound = (n : ℕ) → 0 < n → (s : State) → Run n s → (a : ℕ) → s.asked a ≡ true → s.hops a + 2 ≤ n

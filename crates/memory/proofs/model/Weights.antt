@@ -3,8 +3,8 @@ use Rattle.std.specs.Prelude.{◌≡◌, ℕ, zero, suc, ◌+◌, ◌-◌, ◌*�
 use Rattle.memory.proofs.model.Sets.{has, nobody}
 use Rattle.memory.proofs.model.Sums.{sum_to, count}
 use Rattle.memory.proofs.model.Board.{none, write, is_load}
-use Rattle.memory.proofs.model.Page.{Mark, unmarked, sent, deferred, acked, Journey, home, asking, queued, copied, granted, clearing, Page, busy, far}
-use Rattle.memory.proofs.model.Steps.{Answer, nothing, read_at, written_at, Call, Delivery, Step}
+use Rattle.memory.proofs.model.Page.{Mark, unmarked, sent, deferred, acked, Journey, home, asking, queued, copied, granted, clearing, Page}
+use Rattle.memory.proofs.model.Steps.{Answer, nothing, read_at, written_at}
 
 abbrev pub heft : Mark → ℕ
 heft unmarked = 0
@@ -55,12 +55,8 @@ module _ {W : Type 0} where
   Right n v (read_at a h w) = (w ≡ v) × (h ≤ n - 2)
   Right n v (written_at a h f) = h ≤ n - 2
 
-  abbrev pub start : W → Page W
-  start v = record { root = 0; entry = λ x. record { access = cond (x == 0) write none; hint = 0; copies = nobody; words = v }; journey = λ _. home; waits = λ _. [] }
-
-  pub data Run (n : ℕ) (v : W) : W → Page W → Type 0 where
-    begin : Run n v v (start v)
-    then : {m : W} {p q : Page W} {d : Answer W} → Run n v m p → Step n p d q → Run n v (fed m d) q
+  abbrev pub start : W → W → Page W
+  start idle v = record { root = 0; entry = λ x. record { access = cond (x == 0) write none; hint = 0; copies = nobody; words = cond (x == 0) v idle }; journey = λ _. home; waits = λ _. [] }
 
   -- no journey gets heavier, and one gets lighter
   pub record Falls (n : ℕ) (p q : Page W) : Type 0 where
@@ -75,20 +71,3 @@ module _ {W : Type 0} where
     pub was : p.journey who ≡ home
     pub now : weight n (q.journey who) ≤ 3 * n - 4
     pub others : (x : ℕ) → (x ≢ who) → q.journey x ≡ p.journey x
-
--- the memory: what is answered is right, whatever led here
-abbrev pub OneMemory : Type 0 → Type 0
-OneMemory W = (n : ℕ) (v m : W) (p q : Page W) (d : Answer W) → 0 < n → Run n v m p → Step n p d q → Right n m d
-
-abbrev pub HopsBound : Type 0 → Type 0
-HopsBound W = (n : ℕ) (v m : W) (p : Page W) → 0 < n → Run n v m p → (a : ℕ) → busy (p.journey a) ≡ true → far (p.journey a) + 2 ≤ n
-
-abbrev pub DeliveriesFall : Type 0 → Type 0
-DeliveriesFall W = (n : ℕ) (v m : W) (p q : Page W) (d : Answer W) → 0 < n → Run n v m p → Delivery p d q → Falls n p q × (left n q < left n p)
-
-abbrev pub CallsWeigh : Type 0 → Type 0
-CallsWeigh W = (n : ℕ) (v m : W) (p q : Page W) → 0 < n → Run n v m p → Call n p q → Opens n p q
-
--- where some board has an access open, some journey has a message on the link
-abbrev pub NoDeadlock : Type 0 → Type 0
-NoDeadlock W = (n : ℕ) (v m : W) (p : Page W) → 0 < n → Run n v m p → (x : ℕ) → x < n → busy (p.journey x) ≡ true → (y : ℕ) × (y < n) × (silent n (p.journey y) ≡ false)
