@@ -7,3 +7,5 @@ pub mod Tables
 pub mod Posts
 pub mod Fitting
 pub mod Matches
+pub mod Expected
+pub mod Accepts

@@ -70,7 +70,7 @@ eqb_swap : (x y : ℕ) → eqb x y ≡ eqb y x
 eqb_swap x y = grind (arith, nat_tests)
 
 -- the stage that the model sees on a page
-on_is : (page : ℕ) (st : Stage) (seat : Seat W) → StageIs st seat → open_on seat page ≡ cond (is_on st page) seat.stage closed
+pub on_is : (page : ℕ) (st : Stage) (seat : Seat W) → StageIs st seat → open_on seat page ≡ cond (is_on st page) seat.stage closed
 on_is page Idle seat h = grind (arith, h)
 on_is page (LoadAsked a) seat h = ap (λ (x : ℕ). cond (eqb page x) seat.stage closed) h.1 ∙ ap (λ (x : Bool). cond x seat.stage closed) (eqb_swap page (page_of a.address))
 on_is page (StoreAsked a) seat h = ap (λ (x : ℕ). cond (eqb page x) seat.stage closed) h.1 ∙ ap (λ (x : Bool). cond x seat.stage closed) (eqb_swap page (page_of a.address))

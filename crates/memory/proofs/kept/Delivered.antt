@@ -428,7 +428,7 @@ module _ {W : Type 0} (same : Mail W → Mail W → Bool) (law : Equality same) 
       }
 
   -- which journey a message belongs to
-  request_is : (d : Kind) (u a h : ℕ) (g : Journey W) → mail_of a g a ≡ just (request d u a h) → g ≡ asking d u h
+  pub request_is : (d : Kind) (u a h : ℕ) (g : Journey W) → mail_of a g a ≡ just (request d u a h) → g ≡ asking d u h
   request_is d u a h g e = grind (arith, facts)
 
   copy_is : (f a h : ℕ) (w : W) (g : Journey W) → mail_of a g a ≡ just (copy f a h w) → g ≡ copied f h w
@@ -437,7 +437,7 @@ module _ {W : Type 0} (same : Mail W → Mail W → Bool) (law : Equality same) 
   grant_is : (f a h : ℕ) (c : Boards) (w : W) (g : Journey W) → mail_of a g a ≡ just (grant f a h c w) → g ≡ granted f h c w
   grant_is f a h c w g e = grind (arith, facts)
 
-  invalidate_is : (c x : ℕ) (g : Journey W) → mail_of c g x ≡ just (invalidate c x) → (h : ℕ) × (m : ℕ → Mark) × (g ≡ clearing h m) × (m x ≡ sent)
+  pub invalidate_is : (c x : ℕ) (g : Journey W) → mail_of c g x ≡ just (invalidate c x) → (h : ℕ) × (m : ℕ → Mark) × (g ≡ clearing h m) × (m x ≡ sent)
   invalidate_is c x (clearing h m) e = (h, m, refl, grind (arith, facts))
   invalidate_is c x home e = absurd (grind (arith, facts))
   invalidate_is c x (asking k u h) e = absurd (grind (arith, facts))
