@@ -9,3 +9,4 @@ pub mod Fitting
 pub mod Matches
 pub mod Expected
 pub mod Accepts
+pub mod Outcomes

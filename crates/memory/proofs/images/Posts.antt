@@ -1,4 +1,4 @@
--- What a board posts carries copy sets with room for sixteen.
+-- What a board posts carries copy sets with room for sixteen, and the board keeps its number.
 use Rattle.std.proofs.Common.{◌≡◌, ℕ, Bool, true, false, cond, eqb, List, [], ◌∷◌, ◌++◌, map, get_or, length, Some, None, Option, refl, ◌∙◌}
 use Rattle.std.proofs.lemmas.List.{length-set}
 use Rattle.std.specs.List.{AllByRecursion as All}
@@ -50,65 +50,66 @@ module _ (me page : ℕ) where
   invalidates_whole [] = tt
   invalidates_whole (b ∷ bs) = (refl, invalidates_whole bs)
 
--- of the entry and the posts after an opening or a step
-pub record WholeStep (e : PageEntry) (posts : List Message) : Type 0 where
+-- of the state, the entry and the posts after an opening or a step
+pub record WholeStep (me : ℕ) (s : BoardState) (e : PageEntry) (posts : List Message) : Type 0 where
+  pub number : s.number ≡ me
   pub entry : Full e
   pub posts_whole : All Whole posts
 
 module _ (s : BoardState) (e : PageEntry) (full : Full e) where
-  loaded_by : (a : Access) (address : ℕ) → let o = load_with a s e address in WholeStep o.entry o.posts
-  loaded_by access.None address = record { entry = full; posts_whole = (refl, tt) }
-  loaded_by access.Read address = record { entry = full; posts_whole = tt }
-  loaded_by access.Write address = record { entry = full; posts_whole = tt }
+  loaded_by : (a : Access) (address : ℕ) → let o = load_with a s e address in WholeStep s.number o.state o.entry o.posts
+  loaded_by access.None address = record { number = refl; entry = full; posts_whole = (refl, tt) }
+  loaded_by access.Read address = record { number = refl; entry = full; posts_whole = tt }
+  loaded_by access.Write address = record { number = refl; entry = full; posts_whole = tt }
 
-  pub loaded : (address : ℕ) → let o = load s e address in WholeStep o.entry o.posts
+  pub loaded : (address : ℕ) → let o = load s e address in WholeStep s.number o.state o.entry o.posts
   loaded address = loaded_by e.access address
 
-  owner_stored : (b : Bool) (address word : ℕ) → let o = cond b (put s e address word) (clearing_store s e address word) in WholeStep o.entry o.posts
-  owner_stored true address word = record { entry = full; posts_whole = tt }
-  owner_stored false address word = record { entry = full; posts_whole = invalidates_whole s.number (page_of address) _ }
+  owner_stored : (b : Bool) (address word : ℕ) → let o = cond b (put s e address word) (clearing_store s e address word) in WholeStep s.number o.state o.entry o.posts
+  owner_stored true address word = record { number = refl; entry = full; posts_whole = tt }
+  owner_stored false address word = record { number = refl; entry = full; posts_whole = invalidates_whole s.number (page_of address) _ }
 
-  not_writing : (b : Bool) (address word : ℕ) → let o = cond b (owner_store s e address word) (asking_store s e address word) in WholeStep o.entry o.posts
+  not_writing : (b : Bool) (address word : ℕ) → let o = cond b (owner_store s e address word) (asking_store s e address word) in WholeStep s.number o.state o.entry o.posts
   not_writing true address word = owner_stored (is_empty e.copies) address word
-  not_writing false address word = record { entry = full; posts_whole = (refl, tt) }
+  not_writing false address word = record { number = refl; entry = full; posts_whole = (refl, tt) }
 
-  stored_by : (a : Access) (address word : ℕ) → let o = store_with a s e address word in WholeStep o.entry o.posts
+  stored_by : (a : Access) (address word : ℕ) → let o = store_with a s e address word in WholeStep s.number o.state o.entry o.posts
   stored_by access.None address word = not_writing (owns s.number e) address word
   stored_by access.Read address word = not_writing (owns s.number e) address word
-  stored_by access.Write address word = record { entry = full; posts_whole = tt }
+  stored_by access.Write address word = record { number = refl; entry = full; posts_whole = tt }
 
-  pub stored : (address word : ℕ) → let o = store s e address word in WholeStep o.entry o.posts
+  pub stored : (address word : ℕ) → let o = store s e address word in WholeStep s.number o.state o.entry o.posts
   stored address word = stored_by e.access address word
 
   module _ (m : Message) (whole : Whole m) where
     abbrev AfterStep : board.Step → Type 0
-    AfterStep t = WholeStep t.entry t.posts
+    AfterStep t = WholeStep s.number t.state t.entry t.posts
 
     closed : (page : ℕ) (x : PageEntry) (posted : List Message) (fin : _) → Full x → All Whole posted → AfterStep (board.close s page x posted fin)
-    closed page x posted fin f w = record { entry = full_after s.number page s.waiting x f; posts_whole = both Whole posted (posts_for s.number page x s.waiting) w (all_whole s.number page s.waiting x f) }
+    closed page x posted fin f w = record { number = refl; entry = full_after s.number page s.waiting x f; posts_whole = both Whole posted (posts_for s.number page x s.waiting) w (all_whole s.number page s.waiting x f) }
 
     copied : (d : Option ℕ) (fin : _) → AfterStep (board.close s m.page (board.entry_deferred d (board.with_copy e m)) (board.posts_deferred s.number m.page d) fin)
     copied None fin = closed m.page (board.with_copy e m) [] fin full tt
     copied (Some c) fin = closed m.page (board.given_back (board.with_copy e m)) (acknowledgement s.number m.page c ∷ []) fin full (refl, tt)
 
     request : (b : Bool) → AfterStep (cond b (board.join s e m) (board.serve s e m))
-    request true = record { entry = full; posts_whole = tt }
-    request false = record { entry = full_served s.number m.page e (board.request_in m) full; posts_whole = (served_whole s.number m.page e (board.request_in m) full, tt) }
+    request true = record { number = refl; entry = full; posts_whole = tt }
+    request false = record { number = refl; entry = full_served s.number m.page e (board.request_in m) full; posts_whole = (served_whole s.number m.page e (board.request_in m) full, tt) }
 
     gave_back : AfterStep (board.give_back s e m)
-    gave_back = record { entry = full; posts_whole = (refl, tt) }
+    gave_back = record { number = refl; entry = full; posts_whole = (refl, tt) }
 
     deferred : (b : Bool) (a : _) → AfterStep (cond b (board.defer a s e m) (board.give_back s e m))
-    deferred true a = record { entry = full; posts_whole = tt }
+    deferred true a = record { number = refl; entry = full; posts_whole = tt }
     deferred false a = gave_back
 
     granted : (b : Bool) (a : _) → AfterStep (cond b (board.finish_store a m.hops s m.page (board.with_grant s.number e m)) (board.clear a s (board.with_grant s.number e m) m))
     granted true a = closed m.page (board.with_store (board.with_grant s.number e m) a) [] (record { board = s.number; kind = sort.Store; address = a.address; word = a.word; hops = m.hops }) refl tt
-    granted false a = record { entry = whole; posts_whole = invalidates_whole s.number m.page _ }
+    granted false a = record { number = refl; entry = whole; posts_whole = invalidates_whole s.number m.page _ }
 
     counted : (b : Bool) (c : _) → AfterStep (cond b (board.finish_store c.store c.hops s m.page e) (board.still (at_stage s (Clearing (record c { awaited = without_member c.awaited m.from }))) e))
     counted true c = closed m.page (board.with_store e c.store) [] (record { board = s.number; kind = sort.Store; address = c.store.address; word = c.store.word; hops = c.hops }) refl tt
-    counted false c = record { entry = full; posts_whole = tt }
+    counted false c = record { number = refl; entry = full; posts_whole = tt }
 
     by_kind : (st : Stage) (k : Kind) → AfterStep (board.arrives st k s e m)
     by_kind st ReadRequest = request (is_on st m.page)
@@ -120,7 +121,7 @@ module _ (s : BoardState) (e : PageEntry) (full : Full e) where
     by_kind (LoadAsked a) Copy = copied a.deferred (record { board = s.number; kind = sort.Load; address = a.address; word = get_or m.words (place_of a.address) 0; hops = m.hops })
     by_kind (StoreAsked a) Grant = granted (is_empty m.copies) a
     by_kind (Clearing c) Acknowledgement = counted (is_empty (without_member c.awaited m.from)) c
-    by_kind _ _ = record { entry = full; posts_whole = tt }
+    by_kind _ _ = record { number = refl; entry = full; posts_whole = tt }
 
     pub arrived : AfterStep (board.arrive s e m)
     arrived = by_kind s.stage m.kind
