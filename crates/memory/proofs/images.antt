@@ -10,3 +10,5 @@ pub mod Matches
 pub mod Expected
 pub mod Accepts
 pub mod Outcomes
+pub mod Hops
+pub mod Deliveries

@@ -104,7 +104,7 @@ module _ {n : ℕ} {ml : Ledger W} {k : kit.Kit W} (z : Kept same_mail n ml k) (
   home_of : (j : Journey W) → kit.stage_of j ≡ kit.closed → j ≡ home
   home_of j h = grind arith
 
-  clearing_rooted : (j : Journey W) (h : ℕ) → kit.stage_of j ≡ kit.clears h → rooted j ≡ true
+  pub clearing_rooted : (j : Journey W) (h : ℕ) → kit.stage_of j ≡ kit.clears h → rooted j ≡ true
   clearing_rooted j h e = grind arith
 
 -- a message that is taken from the link of a kit
@@ -112,16 +112,16 @@ module _ {n p : ℕ} {ml : Ledger W} {k : kit.Kit W} {s : Running} (z : Kept sam
   abbrev Q : Page W
   Q = z.pages m.page
 
-  abbrev it : Fitting n p m
+  abbrev pub it : Fitting n p m
   it = one_fits n p m rest s.waiting waited mt.fit
 
-  abbrev st : BoardState
+  abbrev pub st : BoardState
   st = state_at s.kit m.to
 
-  abbrev here : PageEntry
+  abbrev pub here : PageEntry
   here = entry_at (table_of s.kit m.to) m.page
 
-  abbrev seat : kit.Seat W
+  abbrev pub seat : kit.Seat W
   seat = (k.board m.to).seat
 
   pub taken : k.link ≡ post_image m & map_bag post_image rest
@@ -159,10 +159,10 @@ module _ {n p : ℕ} {ml : Ledger W} {k : kit.Kit W} {s : Running} (z : Kept sam
       let same = ap (λ (x : model.Mail W). kit.arrive n st.number seat (entry_image here) x (kit.open_on seat m.page)) q ∙ ap (kit.arrive n st.number seat (entry_image here) x) at in
       replies_not (sym bad ∙ sym same ∙ sym arrives_is ∙ sim.replied)
 
-  rows : length (table_of s.kit m.to) ≡ 16
+  pub rows : length (table_of s.kit m.to) ≡ 16
   rows = mt.sized.shape.rows m.to (omega (arith, it.to, mt.sized.few_boards))
 
-  abbrev told : LoneTold (board_at s.kit m.to)
+  abbrev pub told : LoneTold (board_at s.kit m.to)
   told = lone_told (board_at s.kit m.to) rows (mt.boards.form m.to it.to)
 
   -- Requests.

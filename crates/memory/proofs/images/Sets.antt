@@ -1,5 +1,5 @@
 -- Sets of boards in the model, and how they are those of the boards.
-use Rattle.std.proofs.Common.{◌≡◌, ℕ, zero, suc, ◌+◌, ◌<◌, ◌≤◌, Bool, true, false, cond, List, replicate, [], ◌∷◌, ◌++◌, length, map, set, get_or, refl, ap, ◌∙◌, sym, inl, inr, arith}
+use Rattle.std.proofs.Common.{◌≡◌, ℕ, zero, suc, ◌+◌, ◌<◌, ◌≤◌, Bool, true, false, cond, List, replicate, [], ◌∷◌, ◌++◌, length, map, drop, set, get_or, refl, ap, ◌∙◌, sym, inl, inr, arith}
 use Rattle.std.proofs.lemmas.Bool.{cases_Bool, cases_eq, true≢false}
 use Rattle.std.proofs.lemmas.Bool.Decides.{nat_tests}
 use Rattle.std.specs.List.{filter, range_with_len}
@@ -124,3 +124,16 @@ invalidates_are n me page s l below =
     each : (ys : List ℕ) → map (on_page page) (to_each me ys) ≡ map post_image (map (board.invalidate me page) ys)
     each [] = refl
     each (y ∷ ys) = ap (λ (z : List (Post W)). on_page page (invalidate me y) ∷ z) (each ys)
+
+-- a set each of whose members is below n
+get_or_drop : (n y : ℕ) (c : List Bool) → get_or (drop n c) y false ≡ get_or c (n + y) false
+get_or_drop zero y c = ap (λ (x : ℕ). get_or c x false) (omega arith)
+get_or_drop (suc n) y [] = refl
+get_or_drop (suc n) y (b ∷ c) = get_or_drop n y c ∙ ap (λ (x : ℕ). get_or (b ∷ c) x false) {x = suc (n + y)} (omega arith)
+
+pub below_from : (s : BoardSet) (n : ℕ) → ((y : ℕ) → sets.has s y ≡ true → y < n) → sets.is_below s n ≡ true
+below_from s n h = by (sets.none_of (drop n s.members)) refl
+  where
+    by : (b : Bool) → sets.none_of (drop n s.members) ≡ b → sets.none_of (drop n s.members) ≡ true
+    by true e = e
+    by false e = absurd (let m = some_member (drop n s.members) e in let l = h (n + m.0) (sym (get_or_drop n m.0 s.members) ∙ m.1) in omega (arith, l))
