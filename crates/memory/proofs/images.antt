@@ -12,3 +12,4 @@ pub mod Accepts
 pub mod Outcomes
 pub mod Hops
 pub mod Deliveries
+pub mod Ledgers
