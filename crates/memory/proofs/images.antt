@@ -13,3 +13,4 @@ pub mod Outcomes
 pub mod Hops
 pub mod Deliveries
 pub mod Ledgers
+pub mod Finishes
