@@ -7,7 +7,7 @@ use Rattle.memory.specs.Ledgers.{Ledger, entered, fresh, entering, ledger, open_
 use Rattle.memory.specs.OneMemory.{Right, NothingOpen, OneMemoryWithin}
 use Rattle.memory.specs.Placements.{Words}
 use Rattle.memory.specs.Reached.{Reached, started, onward}
-use Rattle.memory.specs.Willing.{Served, Willing}
+use Rattle.memory.specs.Willing.{AnswersWillingly, Willing}
 use Rattle.memory.proofs.Earlier.{earlier, happened}
 use Rattle.memory.proofs.Splits.{split_push}
 
@@ -15,7 +15,7 @@ use Rattle.memory.proofs.Splits.{split_push}
 pub record Carries (n p most each : ℕ) (first : Words) (start : Running) (Kept : Ledger → Running → ℕ → Type 0) : Type 0 where
   pub begins : Kept (fresh first) start 0
   pub right : (l : Ledger) (s t : Running) (w : ℕ) (e : Event) → Kept l s w → Does s e t → Right most l e
-  pub serves : (l : Ledger) (s t : Running) (w : ℕ) (e : Event) → Kept l s w → Does s e t → Served n p l e
+  pub serves : (l : Ledger) (s t : Running) (w : ℕ) (e : Event) → Kept l s w → Does s e t → AnswersWillingly n p l e
   -- a delivery takes from the work left, while there is any
   pub goes_on : (l : Ledger) (s t : Running) (w : ℕ) (e : Event) → Kept l s w → Does s e t → (v : ℕ) × Kept (entered l e) t v × (IsDelivery e.call → v ≤ w - 1)
   pub bounded : (l : Ledger) (s : Running) (w : ℕ) → Kept l s w → w ≤ each * open_accesses n l

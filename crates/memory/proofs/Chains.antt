@@ -10,7 +10,7 @@ use Rattle.memory.specs.declared.answer.Answer.TheVariants.{Accessed, Arrived, Q
 use Rattle.memory.specs.declared.call.Call.{Call}
 use Rattle.memory.specs.declared.call.Call.TheVariants.{Load, Store, Deliver}
 use Rattle.memory.specs.Histories.{Event, History}
-use Rattle.memory.specs.Ledgers.{Ledger, open_accesses}
+use Rattle.memory.specs.Ledgers.{Ledger, passed_on, open_accesses}
 use Rattle.memory.specs.Witnesses.{kept, PassedOn, TakesAll, OfSomeHistory}
 use Rattle.memory.proofs.Playing.{move, event_of, history, goes, after, history_append, length_history, only_deliveries}
 use Rattle.memory.proofs.Witnesses.{desk, possible}
@@ -59,17 +59,17 @@ one_more n h e low count = omega (arith, low, count, length-append h (e ∷ []))
 abbrev passes : Ledger → ℕ → Answer → Bool
 passes l times (Accessed a) = false
 passes l times (Arrived (Moved board kind hops)) = false
-passes l times (Arrived (Finished f)) = l.passed f.board == times && f.hops == times
+passes l times (Arrived (Finished f)) = passed_on l f.board == times && f.hops == times
 passes l times Quiet = false
 
-passed_on : (times : ℕ) (h before : History) (pick : ℕ) (answer : Answer) (posted : List Message) →
+finishes_passed : (times : ℕ) (h before : History) (pick : ℕ) (answer : Answer) (posted : List Message) →
     h ≡ before ++ record { call = Deliver pick; answer = Ok answer; posted = posted } ∷ [] → passes (kept h) times answer ≡ true → PassedOn times h
-passed_on times h before pick (Accessed a) posted told p = let never : false ≡ true = p in absurd (cc)
-passed_on times h before pick (Arrived (Moved board kind hops)) posted told p = let never : false ≡ true = p in absurd (cc)
-passed_on times h before pick (Arrived (Finished f)) posted told p =
-    let q = and_parts ((kept h).passed f.board == times) (f.hops == times) p in
-    record { finished = f; before = before; finish = _; told = told; finishes = (tt, refl); passed = eqb-true ((kept h).passed f.board) times q.0; hops = eqb-true f.hops times q.1 }
-passed_on times h before pick Quiet posted told p = let never : false ≡ true = p in absurd (cc)
+finishes_passed times h before pick (Accessed a) posted told p = let never : false ≡ true = p in absurd (cc)
+finishes_passed times h before pick (Arrived (Moved board kind hops)) posted told p = let never : false ≡ true = p in absurd (cc)
+finishes_passed times h before pick (Arrived (Finished f)) posted told p =
+    let q = and_parts (passed_on (kept h) f.board == times) (f.hops == times) p in
+    record { finished = f; before = before; finish = _; told = told; finishes = (tt, refl); passed = eqb-true (passed_on (kept h) f.board) times q.0; hops = eqb-true f.hops times q.1 }
+finishes_passed times h before pick Quiet posted told p = let never : false ≡ true = p in absurd (cc)
 
 module _ (n : ℕ) (low : 3 ≤ n) (high : n ≤ 16) where
   goes_through : goes (n * n) (desk n) (whole n) ≡ true
@@ -108,7 +108,7 @@ module _ (n : ℕ) (low : 3 ≤ n) (high : n ≤ 16) where
   passes_all = each_passes (λ n. passes (kept (told n (whole n))) (n - 2) (move (after (desk n) (almost n)) (Deliver 0)).answer) 14 refl n low (omega arith)
 
   passes_through : PassedOn (n - 2) (told n (whole n))
-  passes_through = passed_on (n - 2) (told n (whole n)) (told n (almost n)) 0 _ _ told_whole passes_all
+  passes_through = finishes_passed (n - 2) (told n (whole n)) (told n (almost n)) 0 _ _ told_whole passes_all
 
   pub all_are_needed : OfSomeHistory n (TakesAll n)
   all_are_needed = (told n (whole n), takes_all, possible n (whole n) goes_through)

@@ -3,7 +3,7 @@ use Rattle.std.proofs.Common.{◌≡◌, ℕ, zero, suc, ◌+◌, ◌-◌, ◌*�
 use Rattle.std.proofs.lemmas.Bool.{cases_eq, cases_lt}
 use Rattle.memory.specs.Histories.{History}
 use Rattle.memory.specs.LeastBounds.{PassesThroughAll, AllAreNeeded, BoundsAreLeast}
-use Rattle.memory.specs.Ledgers.{Ledger, fresh, open_accesses}
+use Rattle.memory.specs.Ledgers.{Ledger, fresh, passed_on, open_accesses}
 use Rattle.memory.specs.OneMemory.{OneMemoryWithin, NothingOpen}
 use Rattle.memory.specs.Placements.{array}
 use Rattle.memory.specs.Promises.{IsOneMemoryWithin}
@@ -17,7 +17,7 @@ passed_within : (n most each times : ℕ) (h : History) → PassedOn times h →
 passed_within n most each times h p m =
     let passes = (m.right p.before p.finish [] p.told).passes p.finished.board in
     let same = ap kept p.told ∙ last_entered (fresh (array [])) p.before p.finish in
-    let count = sym p.passed ∙ ap (λ l. l.passed p.finished.board) same in
+    let count = sym p.passed ∙ ap (λ l. passed_on l p.finished.board) same in
     omega (arith, passes, count)
 
 none_open : (n : ℕ) (l : Ledger) → NothingOpen l → open_accesses n l ≡ 0

@@ -1,5 +1,6 @@
 -- Calls played on a kit: the waiting messages stand in a list, and a delivery takes the one at the place that it picks.
 use Rattle.std.proofs.Common.{◌≡◌, ℕ, zero, suc, ◌+◌, ◌<◌, ◌≤◌, nat_lt, nat_le, Bool, true, false, ◌&&◌, List, [], ◌∷◌, ◌++◌, length, get_or, replicate, Some, None, Ok, Option, refl, inr, ap, ◌∙◌, sym, subst, append_assoc, arith}
+use Rattle.records.specs.Forms.{message_questions}
 use Rattle.std.proofs.lemmas.Bool.{and_parts, ltb-true, leb-true, le-leb}
 use Rattle.std.proofs.lemmas.List.{append-nil}
 use Rattle.std.specs.List.{remove}
@@ -54,7 +55,7 @@ abbrev asks_access : Desk → ℕ → ℕ → List (ℕ × Bool)
 asks_access d board address = (1, nat_lt board d.kit.boards) ∷ lone.access_questions (board_at d.kit board) address
 
 abbrev asks_arrival : Desk → Message → List (ℕ × Bool)
-asks_arrival d m = (15, nat_lt m.to d.kit.boards) ∷ lone.arrival_questions (board_at d.kit m.to) m
+asks_arrival d m = message_questions m ++ (15, nat_lt m.to d.kit.boards && lone.belongs (board_at d.kit m.to) m) ∷ (16, lone.expects (board_at d.kit m.to) m) ∷ []
 
 abbrev arrive : Desk → Message → List Message → Move
 arrive d m rest = turn (asks_arrival d m) Arrived m.to (arrive_at (board_at d.kit m.to) m) d.kit rest

@@ -16,7 +16,7 @@ use Rattle.memory.specs.WrongHistories.{refused, AllRefused, RefusingIsOneMemory
 -- nothing is open, and nothing was passed on
 record Idle (l : Ledger) : Type 0 where
   pub nothing_open : NothingOpen l
-  pub none_passed : (board : ℕ) → l.passed board ≡ 0
+  pub none_passed : (board : ℕ) → l.requests board ≡ 0
 
 begins_idle : (first : Words) → Idle (fresh first)
 begins_idle first = record { nothing_open = λ board. refl; none_passed = λ board. refl }

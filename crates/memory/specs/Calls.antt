@@ -1,10 +1,11 @@
 -- What a call does to a running kit: on the board that it is about it does what it does on a board by itself, and the link's choice is all that is left open.
-use Rattle.std.specs.Prelude.{◌≡◌, ℕ, Bool, ◌⊎◌, List, [], ◌∷◌, ◌++◌, Ok, Result, MatchResult, nat_lt}
+use Rattle.std.specs.Prelude.{◌≡◌, ℕ, Bool, ◌&&◌, ◌⊎◌, List, [], ◌∷◌, ◌++◌, Ok, Result, MatchResult, nat_lt}
 use Rattle.wire.specs.Bags.{Bag, ◌&◌, ◌⊕◌, empty, size}
 use Rattle.wire.specs.Links.{room_questions}
 use Rattle.wire.specs.Questions.{first_no, refusal}
 use Rattle.wire.specs.declared.fault.Fault.{Fault}
 use Rattle.wire.specs.declared.message.Message.{Message}
+use Rattle.records.specs.Forms.{message_questions}
 use Rattle.board.specs.Outboxes.{outbox_room}
 use Rattle.lone.specs.Calls.{Outcome, load_at, store_at, arrive_at}
 use Rattle.lone.specs.LoneQuestions as lone
@@ -29,11 +30,13 @@ room s = room_questions s.limit (size s.waiting) outbox_room
 abbrev pub access_questions : Running → ℕ → ℕ → List (ℕ × Bool)
 access_questions s board address = (1, nat_lt board s.kit.boards) ∷ lone.access_questions (board_at s.kit board) address ++ room s
 
--- a message that was taken from the link: is there the board that it is addressed to, does it take the message, and is there room?
+-- a message that was taken from the link: has it its form, does it belong to the board that it is addressed to, is it expected there, and is there room?
 abbrev pub arrival_questions : Running → Message → List (ℕ × Bool)
-arrival_questions s m = (15, nat_lt m.to s.kit.boards) ∷ lone.arrival_questions (board_at s.kit m.to) m ++ room s
+arrival_questions s m =
+    let receiver = board_at s.kit m.to in
+    message_questions m ++ (15, nat_lt m.to s.kit.boards && lone.belongs receiver m) ∷ (16, lone.expects receiver m) ∷ room s
 
--- the first question that is answered no refuses the call, and nothing changes
+-- the first question that is answered no refuses the call, and nothing changes from s
 -- else the board becomes, the call answers, and the messages that join those that wait are, what the outcome has
 abbrev pub Answers : {A : Type 0} → List (ℕ × Bool) → (A → Answer) → ℕ → Outcome A → Running → Result Answer Fault → List Message → Running → Type 0
 Answers questions says board o s answer posted t =
@@ -49,7 +52,8 @@ IsQuiet s answer posted t = (s.waiting ≡ empty) × (answer ≡ Ok Quiet) × (p
 abbrev pub without : Running → Bag Message → Running
 without s rest = record { kit = s.kit; limit = s.limit; waiting = rest }
 
--- one of the waiting messages, whichever, is taken from the link, and arrives at the board that it is addressed to
+-- One of the waiting messages, whichever, is taken from the link, and arrives at the board that it is addressed to.
+-- One that is refused has left the link all the same; in no kit is one refused.
 pub record Delivers (s : Running) (answer : Result Answer Fault) (posted : List Message) (t : Running) : Type 0 where
   pub message : Message
   pub rest : Bag Message

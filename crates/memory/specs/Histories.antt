@@ -34,34 +34,34 @@ abbrev pub address_of : Access → ℕ
 address_of (load address) = address
 address_of (store address word) = address
 
--- all that the array is told of a call and its answer
-pub data Deed : Type 0 where
+-- what a call and its answer change, all that the array is told
+pub data Change : Type 0 where
   -- an access of a board, answered within its call
-  at_once : ℕ → Access → Deed
+  at_once : ℕ → Access → Change
   -- an access of a board, answered as opened
-  opens : ℕ → Access → Deed
+  opens : ℕ → Access → Change
   -- a delivery that finishes the open access of a board
-  finishes : ℕ → Deed
-  nothing : Deed
+  finishes : ℕ → Change
+  nothing : Change
 
-abbrev pub access_deed : ℕ → Access → Result Answer Fault → Deed
-access_deed board access (Ok (Accessed (Answered word))) = at_once board access
-access_deed board access (Ok (Accessed Opened)) = opens board access
-access_deed board access (Ok (Arrived arrival)) = nothing
-access_deed board access (Ok Quiet) = nothing
-access_deed board access (Err fault) = nothing
+abbrev pub access_change : ℕ → Access → Result Answer Fault → Change
+access_change board access (Ok (Accessed (Answered word))) = at_once board access
+access_change board access (Ok (Accessed Opened)) = opens board access
+access_change board access (Ok (Arrived arrival)) = nothing
+access_change board access (Ok Quiet) = nothing
+access_change board access (Err fault) = nothing
 
-abbrev pub delivery_deed : Result Answer Fault → Deed
-delivery_deed (Ok (Accessed answer)) = nothing
-delivery_deed (Ok (Arrived (Moved board kind hops))) = nothing
-delivery_deed (Ok (Arrived (Finished f))) = finishes f.board
-delivery_deed (Ok Quiet) = nothing
-delivery_deed (Err fault) = nothing
+abbrev pub delivery_change : Result Answer Fault → Change
+delivery_change (Ok (Accessed answer)) = nothing
+delivery_change (Ok (Arrived (Moved board kind hops))) = nothing
+delivery_change (Ok (Arrived (Finished f))) = finishes f.board
+delivery_change (Ok Quiet) = nothing
+delivery_change (Err fault) = nothing
 
-abbrev pub deed : Call → Result Answer Fault → Deed
-deed (Load board address) answer = access_deed board (load address) answer
-deed (Store board address word) answer = access_deed board (store address word) answer
-deed (Deliver pick) answer = delivery_deed answer
+abbrev pub change : Call → Result Answer Fault → Change
+change (Load board address) answer = access_change board (load address) answer
+change (Store board address word) answer = access_change board (store address word) answer
+change (Deliver pick) answer = delivery_change answer
 
 abbrev pub IsDelivery : Call → Type 0
 IsDelivery (Load board address) = ⊥

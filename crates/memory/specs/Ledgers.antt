@@ -8,7 +8,7 @@ use Rattle.memory.specs.declared.call.Call.{Call}
 use Rattle.memory.specs.declared.call.Call.TheVariants.{Load, Store, Deliver}
 use Rattle.memory.specs.declared.answer.Answer.{Answer}
 use Rattle.memory.specs.declared.answer.Answer.TheVariants.{Accessed, Arrived, Quiet}
-use Rattle.memory.specs.Histories.{Event, History, Access, load, store, Deed, at_once, opens, finishes, nothing, deed}
+use Rattle.memory.specs.Histories.{Event, History, Access, load, store, Change, at_once, opens, finishes, nothing, change}
 use Rattle.memory.specs.Placements.{Words, with_put}
 
 pub record Ledger : Type 0 where
@@ -16,8 +16,8 @@ pub record Ledger : Type 0 where
   pub array : Words
   -- each board's open access
   pub pending : ℕ → Option Access
-  -- for each board, how often the request of its last access was passed on
-  pub passed : ℕ → ℕ
+  -- for each board, how many requests of its were posted since the call that last opened an access of it, that call included
+  pub requests : ℕ → ℕ
   -- how many messages were posted and not yet delivered
   pub waiting : ℕ
 
@@ -41,7 +41,7 @@ abbrev pub answered_if : Words → Option Access → Words
 answered_if array None = array
 answered_if array (Some access) = answered array access
 
-abbrev pub array_after : Ledger → Deed → Words
+abbrev pub array_after : Ledger → Change → Words
 array_after l (at_once board access) = answered l.array access
 array_after l (opens board access) = l.array
 array_after l (finishes board) = answered_if l.array (l.pending board)
@@ -49,13 +49,13 @@ array_after l nothing = l.array
 
 -- An access is open from the call that opens it to the delivery that finishes it.
 
-abbrev pub pending_after : Ledger → Deed → ℕ → Option Access
+abbrev pub pending_after : Ledger → Change → ℕ → Option Access
 pending_after l (at_once board access) = l.pending
 pending_after l (opens board access) = changed l.pending board (Some access)
 pending_after l (finishes board) = changed l.pending board None
 pending_after l nothing = l.pending
 
--- A request is passed on each time that it is posted, but for the first.
+-- Requests are counted from the call that opens an access on.
 
 abbrev pub is_request : Kind → Bool
 is_request ReadRequest = true
@@ -67,15 +67,16 @@ abbrev pub requests_of : ℕ → List Message → ℕ
 requests_of board [] = 0
 requests_of board (m ∷ ms) = cond (is_request m.kind && (m.asker == board)) 1 0 + requests_of board ms
 
-abbrev pub more_passed : Ledger → List Message → ℕ → ℕ
-more_passed l posted board = l.passed board + requests_of board posted
+-- the call that opens an access begins a new count
+abbrev pub requests_before : Ledger → Change → ℕ → ℕ
+requests_before l (at_once board access) = l.requests
+requests_before l (opens board access) = changed l.requests board 0
+requests_before l (finishes board) = l.requests
+requests_before l nothing = l.requests
 
--- the call that opens an access begins a new count, in which its first post does not count
-abbrev pub passed_after : Ledger → Deed → List Message → ℕ → ℕ
-passed_after l (at_once board access) posted = more_passed l posted
-passed_after l (opens board access) posted = changed (more_passed l posted) board (requests_of board posted - 1)
-passed_after l (finishes board) posted = more_passed l posted
-passed_after l nothing posted = more_passed l posted
+-- how often the request of a board's last opened access was passed on: each of its posts but the first
+abbrev pub passed_on : Ledger → ℕ → ℕ
+passed_on l board = l.requests board - 1
 
 -- how many messages a call takes off the link
 abbrev pub taken : Call → Result Answer Fault → ℕ
@@ -89,15 +90,15 @@ taken (Deliver pick) (Err fault) = 1
 -- the ledger with one more event entered
 abbrev pub entered : Ledger → Event → Ledger
 entered l e = record {
-  array = array_after l (deed e.call e.answer);
-  pending = pending_after l (deed e.call e.answer);
-  passed = passed_after l (deed e.call e.answer) e.posted;
+  array = array_after l (change e.call e.answer);
+  pending = pending_after l (change e.call e.answer);
+  requests = λ board. requests_before l (change e.call e.answer) board + requests_of board e.posted;
   waiting = l.waiting - taken e.call e.answer + length e.posted;
 }
 
 -- the ledger of a kit just started
 abbrev pub fresh : Words → Ledger
-fresh first = record { array = first; pending = λ _. None; passed = λ _. 0; waiting = 0 }
+fresh first = record { array = first; pending = λ _. None; requests = λ _. 0; waiting = 0 }
 
 abbrev pub entering : Ledger → History → Ledger
 entering l [] = l

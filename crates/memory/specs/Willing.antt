@@ -24,11 +24,11 @@ questions n p l (Store board address word) = questions_of n p l board address
 questions n p l (Deliver pick) = []
 
 -- a delivery is quiet exactly where nothing waits
-abbrev pub QuietIfEmpty : Ledger → Result Answer Fault → Type 0
-QuietIfEmpty l (Ok (Accessed answer)) = Unit {0}
-QuietIfEmpty l (Ok (Arrived arrival)) = 0 < l.waiting
-QuietIfEmpty l (Ok Quiet) = l.waiting ≡ 0
-QuietIfEmpty l (Err fault) = Unit {0}
+abbrev pub QuietWhereNothingWaits : Ledger → Result Answer Fault → Type 0
+QuietWhereNothingWaits l (Ok (Accessed answer)) = Unit {0}
+QuietWhereNothingWaits l (Ok (Arrived arrival)) = 0 < l.waiting
+QuietWhereNothingWaits l (Ok Quiet) = l.waiting ≡ 0
+QuietWhereNothingWaits l (Err fault) = Unit {0}
 
 -- a refused or quiet call posts nothing
 abbrev pub PostsNothing : Result Answer Fault → List Message → Type 0
@@ -37,10 +37,10 @@ PostsNothing (Ok (Arrived arrival)) posted = Unit {0}
 PostsNothing (Ok Quiet) posted = posted ≡ []
 PostsNothing (Err fault) posted = posted ≡ []
 
-pub record Served (n p : ℕ) (l : Ledger) (e : Event) : Type 0 where
+pub record AnswersWillingly (n p : ℕ) (l : Ledger) (e : Event) : Type 0 where
   pub asked : refusal e.answer ≡ first_no (questions n p l e.call)
-  pub quiet : QuietIfEmpty l e.answer
+  pub quiet : QuietWhereNothingWaits l e.answer
   pub posts : PostsNothing e.answer e.posted
 
 abbrev pub Willing : ℕ → ℕ → Words → History → Type 0
-Willing n p first history = (before : History) (e : Event) (later : History) → history ≡ before ++ e ∷ later → Served n p (ledger first before) e
+Willing n p first history = (before : History) (e : Event) (later : History) → history ≡ before ++ e ∷ later → AnswersWillingly n p (ledger first before) e

@@ -8,7 +8,7 @@ use Rattle.memory.specs.declared.call.Call.TheVariants.{Store}
 use Rattle.memory.specs.declared.answer.Answer.TheVariants.{Accessed, Arrived}
 use Rattle.memory.specs.Calls.{Running}
 use Rattle.memory.specs.Histories.{Event, History, IsDelivery, OnlyDeliveries}
-use Rattle.memory.specs.Ledgers.{Ledger, ledger, open_accesses}
+use Rattle.memory.specs.Ledgers.{Ledger, ledger, passed_on, open_accesses}
 use Rattle.memory.specs.Placements.{array}
 use Rattle.memory.specs.Promises.{IsOneMemoryWithin}
 use Rattle.memory.specs.Reached.{MayBegin, begun, Reached}
@@ -56,7 +56,7 @@ pub record PassedOn (times : ℕ) (history : History) : Type 0 where
   pub finish : Event
   pub told : history ≡ before ++ finish ∷ []
   pub finishes : Finishes finished finish
-  pub passed : (kept history).passed finished.board ≡ times
+  pub passed : passed_on (kept history) finished.board ≡ times
   pub hops : finished.hops ≡ times
 
 abbrev pub PassesOnOnce : Type 0

@@ -12,7 +12,7 @@ use Rattle.memory.specs.declared.call.Call.TheVariants.{Load, Store, Deliver}
 use Rattle.memory.specs.declared.answer.Answer.{Answer}
 use Rattle.memory.specs.declared.answer.Answer.TheVariants.{Accessed, Arrived, Quiet}
 use Rattle.memory.specs.Histories.{Event, History, Access, load, kind_of, address_of, OnlyDeliveries}
-use Rattle.memory.specs.Ledgers.{brought, entered, ledger, open_accesses}
+use Rattle.memory.specs.Ledgers.{brought, entered, ledger, passed_on, open_accesses}
 use Rattle.memory.specs.OneMemory.{OneMemory}
 use Rattle.memory.specs.Placements.{Words}
 use Rattle.memory.specs.Willing.{Willing}
@@ -57,7 +57,7 @@ pub record FinishesAreTold (first : Words) (before : History) : Type 0 where
   pub other_address : (pick : ℕ) (f : Finished) (access : Access) (posted : List Message) → (ledger first before).pending f.board ≡ Some access → (f.address ≡ address_of access → ⊥) → Wrong first before (finishing pick f posted ∷ [])
   pub other_word : (pick : ℕ) (f : Finished) (access : Access) (posted : List Message) → (ledger first before).pending f.board ≡ Some access → (f.word ≡ brought (ledger first before).array access → ⊥) → Wrong first before (finishing pick f posted ∷ [])
   -- other hops than the times that the request was passed on
-  pub other_hops : (pick : ℕ) (f : Finished) (posted : List Message) → (f.hops ≡ (entered (ledger first before) (finishing pick f posted)).passed f.board → ⊥) → Wrong first before (finishing pick f posted ∷ [])
+  pub other_hops : (pick : ℕ) (f : Finished) (posted : List Message) → (f.hops ≡ passed_on (entered (ledger first before) (finishing pick f posted)) f.board → ⊥) → Wrong first before (finishing pick f posted ∷ [])
   -- the same access once more
   pub finished_twice : (pick next : ℕ) (f : Finished) (posted later_posted : List Message) → Wrong first before (finishing pick f posted ∷ finishing next f later_posted ∷ [])
   -- a load finishes with an old word, after the store of a newer one was answered
@@ -75,7 +75,7 @@ pub record AnswersAreTold (first : Words) (before : History) : Type 0 where
 -- too much
 pub record BoundsAreTold (first : Words) (before : History) : Type 0 where
   -- a request is passed on once too often
-  pub passed_too_often : (n board : ℕ) (e : Event) (later : History) → n - 2 < (entered (ledger first before) e).passed board → OneMemory n first (before ++ e ∷ later) → ⊥
+  pub passed_too_often : (n board : ℕ) (e : Event) (later : History) → n - 2 < passed_on (entered (ledger first before) e) board → OneMemory n first (before ++ e ∷ later) → ⊥
   -- an access is still open after enough deliveries
   pub still_open : (n board : ℕ) (access : Access) (deliveries later : History) → OnlyDeliveries deliveries → (3 * n - 4) * open_accesses n (ledger first before) ≤ length deliveries →
       (ledger first (before ++ deliveries)).pending board ≡ Some access → OneMemory n first (before ++ deliveries ++ later) → ⊥

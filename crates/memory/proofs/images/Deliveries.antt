@@ -1,5 +1,5 @@
 -- A delivery in a kit is a delivery in the model.
-use Rattle.std.proofs.Common.{◌≡◌, ℕ, ◌<◌, ◌≤◌, Bool, true, false, not, cond, ◌&&◌, eqb, nat_lt, nat_le, List, [], ◌∷◌, ◌++◌, length, None, refl, ap, ◌∙◌, sym, subst, arith}
+use Rattle.std.proofs.Common.{◌≡◌, ℕ, ◌<◌, ◌≤◌, Bool, true, not, cond, ◌&&◌, eqb, nat_lt, nat_le, List, [], ◌∷◌, None, refl, ap, ◌∙◌, sym, subst, arith}
 use Rattle.std.proofs.lemmas.Bool.{and_parts, and_from, eqb-true, eq-eqb, lt-ltb}
 use Rattle.std.specs.List.{AllByRecursion as All}
 use Rattle.wire.specs.Bags.{Bag, ◌&◌, ◌⊕◌}
@@ -17,7 +17,7 @@ use Rattle.board.specs.declared.entry.PageEntry.{PageEntry}
 use Rattle.board.specs.declared.request.Request.{Request}
 use Rattle.board.specs.declared.stage.ClearingStore.{ClearingStore}
 use Rattle.board.specs.declared.stage.Stage.TheVariants.{Clearing}
-use Rattle.lone.specs.Forms.{another, waiting_form, stage_form, lone_form}
+use Rattle.lone.specs.Forms.{waiting_form, stage_form}
 use Rattle.lone.specs.LoneQuestions as lone
 use Rattle.lone.specs.Lones.{Lone}
 use Rattle.lone.specs.PostLaws.{GoodPost}
@@ -27,14 +27,14 @@ use Rattle.lone.proofs.CallPosts.{arrival_posts}
 use Rattle.lone.proofs.Others.{another_is}
 use Rattle.lone.proofs.WaitingForms.{first_told}
 use Rattle.memory.specs.Calls.{Running}
-use Rattle.memory.specs.Kits.{Kit, state_at, table_of, board_at}
+use Rattle.memory.specs.Kits.{table_of, board_at}
 use Rattle.memory.proofs.kept.Histories.{Kept, left_of, delivered}
 use Rattle.memory.proofs.kept.Same.{same_mail, same_law}
 use Rattle.memory.proofs.model.History.{Ledger, call_deliver, after, Good, said_of}
 use Rattle.memory.proofs.model.Kit as kit
-use Rattle.memory.proofs.model.Page.{Page, awaits, mark, mark_of, is_clearing, rooted}
-use Rattle.memory.proofs.images.Accepts.{it, st, here, seat, taken, number_is, seat_is, entry_is, arrives_is, rows, told, is_expected, clearing_rooted}
-use Rattle.memory.proofs.images.Arrivals.{Fits, Replied, replied, on_is}
+use Rattle.memory.proofs.model.Page.{awaits, mark, mark_of}
+use Rattle.memory.proofs.images.Accepts.{it, st, here, seat, taken, number_is, seat_is, arrives_is, rows, told, is_expected, clearing_rooted}
+use Rattle.memory.proofs.images.Arrivals.{Fits, Replied, replied}
 use Rattle.memory.proofs.images.Expected.{to_is}
 use Rattle.memory.proofs.images.Hops.{few_hops}
 use Rattle.memory.proofs.images.Images.{W, entry_image, mail_image, post_image, map_bag, StageIs}

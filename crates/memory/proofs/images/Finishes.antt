@@ -1,5 +1,5 @@
 -- A delivery answers rightly, and the ledgers agree after it.
-use Rattle.std.proofs.Common.{◌≡◌, ℕ, ◌+◌, ◌-◌, ◌*◌, ◌<◌, ◌≤◌, Bool, true, false, not, ◌&&◌, nat_lt, nat_le, List, map, length, get_or, Some, None, Ok, Option, refl, ap, ◌∙◌, sym, subst, arith}
+use Rattle.std.proofs.Common.{◌≡◌, ℕ, ◌+◌, ◌-◌, ◌*◌, ◌<◌, ◌≤◌, true, not, ◌&&◌, nat_lt, nat_le, List, get_or, Some, None, Ok, Option, refl, ap, ◌∙◌, sym, subst, arith}
 use Rattle.std.proofs.lemmas.Bool.{and_parts, ltb-true}
 use Rattle.wire.specs.Bags.{Bag, ◌&◌, ◌⊕◌, size}
 use Rattle.wire.specs.BoardSets.{is_empty, is_part}
@@ -11,6 +11,7 @@ use Rattle.board.specs.Boards.{BoardState}
 use Rattle.board.specs.Serving.{owns}
 use Rattle.board.specs.Steps.{answer_to}
 use Rattle.board.specs.declared.answer.Finished.{Finished}
+use Rattle.board.specs.declared.entry.PageEntry.{PageEntry}
 use Rattle.board.specs.declared.request.AccessKind.TheVariants as sort
 use Rattle.board.specs.declared.stage.Stage.{Stage}
 use Rattle.board.specs.declared.stage.Stage.TheVariants.{Idle, LoadAsked, StoreAsked, Clearing}
@@ -21,22 +22,18 @@ use Rattle.memory.specs.Calls.{Running}
 use Rattle.memory.specs.Histories.{Access, load, store, kind_of, address_of}
 use Rattle.memory.specs.Kits.{Kit, state_at, board_at}
 use Rattle.memory.specs.Ledgers as specs
-use Rattle.memory.specs.OneMemory.{FinishIsRight, DeliveryIsRight}
+use Rattle.memory.specs.OneMemory.{FinishIsRight}
 use Rattle.memory.specs.Placements.{Words}
 use Rattle.memory.specs.declared.answer.Answer.TheVariants.{Arrived}
 use Rattle.memory.specs.declared.call.Call.TheVariants.{Deliver}
-use Rattle.memory.proofs.kept.Histories.{Kept}
-use Rattle.memory.proofs.kept.Same.{same_mail}
 use Rattle.memory.proofs.model.Board as model
 use Rattle.memory.proofs.model.History.{Ledger, call_deliver, after, Good, said_of, stored}
 use Rattle.memory.proofs.model.Kit as kit
 use Rattle.memory.proofs.model.Steps.{Answer, nothing, read_at, written_at}
-use Rattle.memory.proofs.model.Sums.{upd}
 use Rattle.memory.proofs.images.Arrivals.{AnswerIs}
-use Rattle.memory.proofs.images.Images.{W, put_word, post_image, StageIs}
-use Rattle.memory.proofs.images.Ledgers.{WordsAgree, Agrees, put_agrees, requests_are, pending_step, changed_here, changed_there}
-use Rattle.memory.proofs.images.Outcomes.{pending_of, OwnWord, WasOpen, Goes}
-use Rattle.memory.proofs.images.Sets.{on_page}
+use Rattle.memory.proofs.images.Images.{W, put_word, StageIs}
+use Rattle.memory.proofs.images.Ledgers.{WordsAgree, Counts, Agrees, put_agrees, pending_step, changed_here, changed_there}
+use Rattle.memory.proofs.images.Outcomes.{pending_of, OwnWord, WasOpen}
 use Rattle.memory.proofs.images.Tables.{Shaped, kit_after}
 
 -- the open access, in the model
@@ -92,7 +89,7 @@ module _ (n p : ℕ) (l : specs.Ledger) (s : Running) (ml : Ledger W) (ag : Agre
   opens_is : ml.opens board ≡ op_image (pending_of st.stage)
   opens_is = opens ∙ op_is st.stage seat is
 
-  module _ (f : Finished) (w : WasOpen st st.stage f) (m : Message) (pick : ℕ) (mails : List (model.Mail W)) (posts : List Message) (same : (b : ℕ) → specs.requests_of b posts ≡ kit.requests b mails) where
+  module _ (f : Finished) (w : WasOpen st st.stage f) (m : Message) (pick : ℕ) (mails : List (model.Mail W)) (posts : List Message) (same : (b : ℕ) → l.requests b + specs.requests_of b posts - 1 ≡ ml.passed b + kit.requests b mails) where
     here : f.board ≡ board
     here = w.here ∙ number
 
@@ -106,7 +103,7 @@ module _ (n p : ℕ) (l : specs.Ledger) (s : Running) (ml : Ledger W) (ag : Agre
     array_after = specs.answered_if l.array (l.pending f.board)
 
     abbrev passed_after : ℕ → ℕ
-    passed_after b = l.passed b + specs.requests_of b posts
+    passed_after b = l.requests b + specs.requests_of b posts - 1
 
     -- the answer that finishes an access
     right_by : (x : Access) (ans : Answer W) → w.access ≡ x → AnswerIs (Some f) ans → Good n ml call_deliver (said_of ans) mails → FinishIsRight l (passed_after f.board) f
@@ -130,7 +127,7 @@ module _ (n p : ℕ) (l : specs.Ledger) (s : Running) (ml : Ledger W) (ag : Agre
         }
       where
         counted : (b : ℕ) → b ≡ f.board → ml.passed b + kit.requests b mails ≡ passed_after f.board
-        counted b e = omega (arith, ap (λ x. ml.passed x + kit.requests x mails) e, ag.passed f.board, same f.board)
+        counted b e = ap (λ x. ml.passed x + kit.requests x mails) e ∙ sym (same f.board)
     right_by (store address word) (written_at b h g0) q a g = record {
       access = store address word;
       was_open = pending ∙ ap Some q;
@@ -141,7 +138,7 @@ module _ (n p : ℕ) (l : specs.Ledger) (s : Running) (ml : Ledger W) (ag : Agre
     }
       where
         counted : (b : ℕ) → b ≡ f.board → ml.passed b + kit.requests b mails ≡ passed_after f.board
-        counted b e = omega (arith, ap (λ x. ml.passed x + kit.requests x mails) e, ag.passed f.board, same f.board)
+        counted b e = ap (λ x. ml.passed x + kit.requests x mails) e ∙ sym (same f.board)
 
     pub right : (ans : Answer W) → AnswerIs (Some f) ans → Good n ml call_deliver (said_of ans) mails → FinishIsRight l (passed_after f.board) f
     right ans a g = right_by w.access ans refl a g
@@ -159,18 +156,19 @@ module _ (n p : ℕ) (l : specs.Ledger) (s : Running) (ml : Ledger W) (ag : Agre
         subst (λ v. WordsAgree p (specs.answered_if l.array v) (stored (ml.opens b) ml.memory)) (sym (pending ∙ ap Some q))
         (subst (λ v. WordsAgree p (specs.answered_if l.array (Some (store address word))) (stored v ml.memory)) (sym (ap ml.opens a.0 ∙ opened ∙ ap (λ x. op_image (Some x)) q)) (put_agrees p address word l.array ml.memory lt ag.words))
 
-    passed_by : (ans : Answer W) → AnswerIs (Some f) ans → (b : ℕ) → passed_after b ≡ (after ml call_deliver (said_of ans) mails).passed b
-    passed_by nothing a b = absurd a
-    passed_by (read_at c h ws) a b = omega (arith, ag.passed b, same b)
-    passed_by (written_at c h g) a b = omega (arith, ag.passed b, same b)
+    counts_by : (k : Kit) (ans : Answer W) → AnswerIs (Some f) ans → ((b : ℕ) → Counts n k b (l.requests b + specs.requests_of b posts) (ml.passed b + kit.requests b mails)) →
+        (b : ℕ) → Counts n k b (l.requests b + specs.requests_of b posts) ((after ml call_deliver (said_of ans) mails).passed b)
+    counts_by k nothing a h = absurd a
+    counts_by k (read_at c d ws) a h = h
+    counts_by k (written_at c d g) a h = h
 
     -- the ledgers after an access is finished
-    pub agrees : (ans : Answer W) → AnswerIs (Some f) ans → (state : BoardState) (entry : _) → state.stage ≡ Idle → (rest : Bag Message) → s.waiting ≡ m & rest →
+    pub agrees : (ans : Answer W) → AnswerIs (Some f) ans → (state : BoardState) (entry : PageEntry) → ((b : ℕ) → Counts n (kit_after s.kit board page state entry) b (l.requests b + specs.requests_of b posts) (ml.passed b + kit.requests b mails)) → state.stage ≡ Idle → (rest : Bag Message) → s.waiting ≡ m & rest →
         Agrees n p (specs.entered l (record { call = Deliver pick; answer = Ok (Arrived (answer_to m st.number (Some f))); posted = posts }))
-            (record { kit = kit_after s.kit board page state entry; limit = s.limit; waiting = posts ⊕ rest }) (after ml call_deliver (said_of ans) mails)
-    agrees ans a state entry idle rest waited = record {
+        (record { kit = kit_after s.kit board page state entry; limit = s.limit; waiting = posts ⊕ rest }) (after ml call_deliver (said_of ans) mails)
+    agrees ans a state entry counts idle rest waited = record {
       words = words_by w.access ans refl a;
-      passed = passed_by ans a;
+      counts = counts_by (kit_after s.kit board page state entry) ans a counts;
       pending = pending_step n s.kit shape board page (omega (arith, in_board, few)) state entry l.pending (specs.changed l.pending f.board None) ag.pending
           (ap (specs.changed l.pending f.board None) (sym here) ∙ changed_here l.pending f.board None ∙ sym (ap pending_of idle)) (λ b ne. changed_there l.pending f.board None b (λ q. ne (q ∙ here)));
       none_else = λ b lb. changed_there l.pending f.board None b (λ q. let e = q ∙ here in absurd (omega (arith, e, lb, in_board))) ∙ ag.none_else b lb;
@@ -178,16 +176,16 @@ module _ (n p : ℕ) (l : specs.Ledger) (s : Running) (ml : Ledger W) (ag : Agre
     }
 
   -- and where none is
-  pub moved_agrees : (m : Message) (pick : ℕ) (mails : List (model.Mail W)) (posts : List Message) → ((b : ℕ) → specs.requests_of b posts ≡ kit.requests b mails) → (ans : Answer W) → AnswerIs None ans →
-      (state : BoardState) (entry : _) → pending_of state.stage ≡ pending_of st.stage → (rest : Bag Message) → s.waiting ≡ m & rest →
+  pub moved_agrees : (m : Message) (pick : ℕ) (mails : List (model.Mail W)) (posts : List Message) → (ans : Answer W) → AnswerIs None ans →
+      (state : BoardState) (entry : PageEntry) → ((b : ℕ) → Counts n (kit_after s.kit board page state entry) b (l.requests b + specs.requests_of b posts) (ml.passed b + kit.requests b mails)) → pending_of state.stage ≡ pending_of st.stage → (rest : Bag Message) → s.waiting ≡ m & rest →
       Agrees n p (specs.entered l (record { call = Deliver pick; answer = Ok (Arrived (answer_to m st.number None)); posted = posts }))
-          (record { kit = kit_after s.kit board page state entry; limit = s.limit; waiting = posts ⊕ rest }) (after ml call_deliver (said_of ans) mails)
-  moved_agrees m pick mails posts same nothing a state entry still rest waited = record {
+      (record { kit = kit_after s.kit board page state entry; limit = s.limit; waiting = posts ⊕ rest }) (after ml call_deliver (said_of ans) mails)
+  moved_agrees m pick mails posts nothing a state entry counts still rest waited = record {
     words = ag.words;
-    passed = λ b. omega (arith, ag.passed b, same b);
+    counts = counts;
     pending = pending_step n s.kit shape board page (omega (arith, in_board, few)) state entry l.pending l.pending ag.pending (ag.pending board in_board ∙ sym still) (λ b ne. refl);
     none_else = ag.none_else;
     waiting = omega (arith, ag.waiting, ap size waited, size_beside posts rest);
   }
-  moved_agrees m pick mails posts same (read_at b h ws) a state entry still rest waited = absurd a
-  moved_agrees m pick mails posts same (written_at b h g) a state entry still rest waited = absurd a
+  moved_agrees m pick mails posts (read_at b h ws) a state entry counts still rest waited = absurd a
+  moved_agrees m pick mails posts (written_at b h g) a state entry counts still rest waited = absurd a

@@ -1,16 +1,15 @@
 -- A request on the link of a kit has been passed on fewer than sixteen times.
-use Rattle.std.proofs.Common.{◌≡◌, ℕ, ◌+◌, ◌<◌, ◌≤◌, Bool, true, false, cond, List, [], ◌∷◌, refl, ap, ◌∙◌, sym, eqb, arith}
+use Rattle.std.proofs.Common.{◌≡◌, ℕ, ◌<◌, ◌≤◌, Bool, true, cond, List, [], ◌∷◌, refl, ap, sym, eqb, arith}
 use Rattle.std.proofs.lemmas.Bool.{eq-eqb}
 use Rattle.std.specs.List.{AllByRecursion as All}
 use Rattle.wire.specs.Bags.{Bag}
 use Rattle.memory.proofs.kept.Cells.{listed, times_post}
 use Rattle.memory.proofs.kept.Delivered.{request_is}
 use Rattle.memory.proofs.kept.Same.{same_mail, same_law}
-use Rattle.memory.proofs.kept.Sets.{facts}
-use Rattle.memory.proofs.model.Board.{Mail, request, copy, grant, invalidate, acknowledge, Kind}
+use Rattle.memory.proofs.model.Board.{Mail, request, copy, grant, invalidate, acknowledge}
 use Rattle.memory.proofs.model.Invariant.{Inv}
 use Rattle.memory.proofs.model.Kit.{Kit, Post, Maybe, absent, just, Told, post_all, mail_of, is_it, times, owner, slot}
-use Rattle.memory.proofs.model.Page.{Page, Journey, asking, busy, far}
+use Rattle.memory.proofs.model.Page.{Page, busy, far}
 use Rattle.memory.proofs.model.Sums.{bit}
 use Rattle.memory.proofs.images.Images.{W}
 use Rattle.memory.proofs.images.Serving.{FewHops}

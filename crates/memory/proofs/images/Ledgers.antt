@@ -1,10 +1,9 @@
 -- The ledger of a history beside that of the model.
-use Rattle.std.proofs.Common.{◌≡◌, ℕ, ◌+◌, ◌-◌, ◌*◌, ◌/◌, ◌%◌, ◌<◌, ◌≤◌, Bool, true, false, cond, ◌&&◌, eqb, List, [], ◌∷◌, map, length, set, get_or, Some, None, Option, refl, ap, ◌∙◌, sym, inl, inr, arith}
+use Rattle.std.proofs.Common.{◌≡◌, ℕ, ◌+◌, ◌-◌, ◌*◌, ◌<◌, ◌≤◌, Bool, true, false, cond, ◌&&◌, eqb, ◌⊎◌, List, [], ◌∷◌, map, length, get_or, None, Option, refl, ap, ◌∙◌, sym, inl, inr, arith}
 use Rattle.std.proofs.lemmas.Bool.{cases_eq}
 use Rattle.std.proofs.lemmas.Bool.Decides.{nat_tests}
 use Rattle.std.proofs.lemmas.List.{length-set, get_or-set_same, get_or-set_other}
-use Rattle.wire.specs.Bags.{Bag, ◌⊕◌, size}
-use Rattle.wire.proofs.Sending.{size_beside}
+use Rattle.wire.specs.Bags.{size}
 use Rattle.wire.specs.declared.message.Message.{Message}
 use Rattle.wire.specs.declared.message.Kind.{Kind}
 use Rattle.wire.specs.declared.message.Kind.TheVariants.{ReadRequest, WriteRequest, Copy, Grant, Invalidate, Acknowledgement}
@@ -12,7 +11,7 @@ use Rattle.board.specs.Addresses.{page_of, place_of}
 use Rattle.board.specs.Boards.{BoardState}
 use Rattle.board.specs.declared.entry.PageEntry.{PageEntry}
 use Rattle.memory.specs.Calls.{Running}
-use Rattle.memory.specs.Histories.{Access, load, store}
+use Rattle.memory.specs.Histories.{Access}
 use Rattle.memory.specs.Kits.{Kit, state_at}
 use Rattle.memory.specs.Ledgers as specs
 use Rattle.memory.specs.Placements.{Words, with_put}
@@ -20,9 +19,9 @@ use Rattle.memory.proofs.kept.Summed.{upd_same, upd_other}
 use Rattle.memory.proofs.model.Board.{Mail}
 use Rattle.memory.proofs.model.History.{Ledger}
 use Rattle.memory.proofs.model.Kit.{Post, requests, asks_of}
-use Rattle.memory.proofs.model.Sums.{upd, bit}
-use Rattle.memory.proofs.images.Images.{W, mail_by, mail_image, post_image, put_word}
-use Rattle.memory.proofs.images.Outcomes.{pending_of}
+use Rattle.memory.proofs.model.Sums.{upd}
+use Rattle.memory.proofs.images.Images.{W, mail_by, post_image, put_word}
+use Rattle.memory.proofs.images.Outcomes.{pending_of, not_asked}
 use Rattle.memory.proofs.images.Sets.{on_page}
 use Rattle.memory.proofs.images.Tables.{Shaped, kit_after, state_here, state_there}
 
@@ -31,9 +30,17 @@ pub record WordsAgree (p : ℕ) (array : Words) (memory : ℕ → W) : Type 0 wh
   pub long : (r : ℕ) → r < p → length (memory r) ≡ 16
   pub same : (x : ℕ) → x < 16 * p → array x ≡ get_or (memory (page_of x)) (place_of x) 0
 
+-- a request posted once more than it was passed on, or none at all
+abbrev pub Counts : ℕ → Kit → ℕ → ℕ → ℕ → Type 0
+Counts n k b requests passed = (requests ≡ passed + 1) ⊎ ((requests ≡ 0) × (passed ≡ 0) × (b < n → not_asked (state_at k b).stage ≡ true))
+
+pub counted : (n : ℕ) (k : Kit) (b requests passed : ℕ) → Counts n k b requests passed → requests - 1 ≡ passed
+counted n k b requests passed (inl e) = omega (arith, e)
+counted n k b requests passed (inr h) = omega (arith, h.0, h.1)
+
 pub record Agrees (n p : ℕ) (l : specs.Ledger) (s : Running) (ml : Ledger W) : Type 0 where
   pub words : WordsAgree p l.array ml.memory
-  pub passed : (b : ℕ) → l.passed b ≡ ml.passed b
+  pub counts : (b : ℕ) → Counts n s.kit b (l.requests b) (ml.passed b)
   pub pending : (b : ℕ) → b < n → l.pending b ≡ pending_of (state_at s.kit b).stage
   pub none_else : (b : ℕ) → n ≤ b → l.pending b ≡ None
   pub waiting : l.waiting ≡ size s.waiting

@@ -1,16 +1,16 @@
 -- What a step at a board does to its open access.
-use Rattle.std.proofs.Common.{◌≡◌, ℕ, Bool, true, false, cond, eqb, List, get_or, Some, None, Option, refl, ap}
+use Rattle.std.proofs.Common.{◌≡◌, ℕ, Bool, true, false, cond, eqb, Some, None, Option, refl, ap, ◌∙◌, sym}
+use Rattle.std.proofs.lemmas.Bool.{true≢false}
 use Rattle.wire.specs.BoardSets.{is_empty, without_member}
 use Rattle.wire.specs.declared.message.Message.{Message}
 use Rattle.wire.specs.declared.message.Kind.{Kind}
 use Rattle.wire.specs.declared.message.Kind.TheVariants.{ReadRequest, WriteRequest, Copy, Grant, Invalidate, Acknowledgement}
-use Rattle.board.specs.Addresses.{page_of, place_of}
+use Rattle.board.specs.Addresses.{page_of}
 use Rattle.board.specs.Boards.{BoardState, at_stage}
 use Rattle.board.specs.Stages.{is_on}
 use Rattle.board.specs.Steps as board
 use Rattle.board.specs.declared.answer.Finished.{Finished}
 use Rattle.board.specs.declared.entry.PageEntry.{PageEntry}
-use Rattle.board.specs.declared.request.AccessKind.TheVariants as sort
 use Rattle.board.specs.declared.stage.OpenLoad.{OpenLoad}
 use Rattle.board.specs.declared.stage.OpenStore.{OpenStore}
 use Rattle.board.specs.declared.stage.ClearingStore.{ClearingStore}
@@ -24,6 +24,13 @@ pending_of Idle = None
 pending_of (LoadAsked a) = Some (load a.address)
 pending_of (StoreAsked a) = Some (store a.address a.word)
 pending_of (Clearing c) = Some (store c.store.address c.store.word)
+
+-- no access is open that asked for its page and still waits for it
+abbrev pub not_asked : Stage → Bool
+not_asked Idle = true
+not_asked (LoadAsked a) = false
+not_asked (StoreAsked a) = false
+not_asked (Clearing c) = true
 
 -- a store is answered with its own word
 abbrev pub OwnWord : Access → ℕ → Type 0
@@ -82,3 +89,35 @@ module _ (s : BoardState) (e : PageEntry) (m : Message) where
 
   pub arrived : GoesOn s.stage (board.arrive s e m)
   arrived = by_kind s.stage m.kind refl
+
+  -- no message makes a board ask
+  unasked_counted : (c : ClearingStore) (b : Bool) →
+      not_asked (cond b (board.finish_store c.store c.hops s m.page e) (board.still (at_stage s (Clearing (record c { awaited = without_member c.awaited m.from }))) e)).state.stage ≡ true
+  unasked_counted c true = refl
+  unasked_counted c false = refl
+
+  unasked_request : (b : Bool) → not_asked s.stage ≡ true → not_asked (cond b (board.join s e m) (board.serve s e m)).state.stage ≡ true
+  unasked_request true h = h
+  unasked_request false h = h
+
+  unasked_by : (st : Stage) (k : Kind) → s.stage ≡ st → not_asked st ≡ true → not_asked (board.arrives st k s e m).state.stage ≡ true
+  unasked_by st ReadRequest q h = unasked_request (is_on st m.page) (ap not_asked q ∙ h)
+  unasked_by st WriteRequest q h = unasked_request (is_on st m.page) (ap not_asked q ∙ h)
+  unasked_by (LoadAsked a) k q h = absurd (true≢false (sym h))
+  unasked_by (StoreAsked a) k q h = absurd (true≢false (sym h))
+  unasked_by (Clearing c) Acknowledgement q h = unasked_counted c (is_empty (without_member c.awaited m.from))
+  unasked_by Idle k q h = still_by k
+    where
+      still_by : (k : Kind) → not_asked (board.arrives Idle k s e m).state.stage ≡ true
+      still_by ReadRequest = ap not_asked q
+      still_by WriteRequest = ap not_asked q
+      still_by Copy = ap not_asked q
+      still_by Grant = ap not_asked q
+      still_by Invalidate = ap not_asked q
+      still_by Acknowledgement = ap not_asked q
+  unasked_by (Clearing c) Copy q h = ap not_asked q
+  unasked_by (Clearing c) Grant q h = ap not_asked q
+  unasked_by (Clearing c) Invalidate q h = ap not_asked q
+
+  pub stays_unasked : not_asked s.stage ≡ true → not_asked (board.arrive s e m).state.stage ≡ true
+  stays_unasked h = unasked_by s.stage m.kind refl h
