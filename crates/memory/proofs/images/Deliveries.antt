@@ -1,6 +1,6 @@
 -- A delivery in a kit is a delivery in the model.
-use Rattle.std.proofs.Common.{◌≡◌, ℕ, ◌<◌, ◌≤◌, Bool, true, not, cond, ◌&&◌, eqb, nat_lt, nat_le, List, [], ◌∷◌, None, refl, ap, ◌∙◌, sym, subst, arith}
-use Rattle.std.proofs.lemmas.Bool.{and_parts, and_from, eqb-true, eq-eqb, lt-ltb}
+use Rattle.std.proofs.Common.{◌≡◌, ℕ, ◌+◌, ◌<◌, ◌≤◌, Bool, true, not, cond, ◌&&◌, eqb, nat_lt, nat_le, List, [], ◌∷◌, None, refl, ap, ◌∙◌, sym, subst, inl, inr, arith}
+use Rattle.std.proofs.lemmas.Bool.{cases_eq, true≢false, and_parts, and_from, eqb-true, eq-eqb, lt-ltb}
 use Rattle.std.specs.List.{AllByRecursion as All}
 use Rattle.wire.specs.Bags.{Bag, ◌&◌, ◌⊕◌}
 use Rattle.wire.specs.BoardSets as sets
@@ -16,7 +16,7 @@ use Rattle.board.specs.Steps as board
 use Rattle.board.specs.declared.entry.PageEntry.{PageEntry}
 use Rattle.board.specs.declared.request.Request.{Request}
 use Rattle.board.specs.declared.stage.ClearingStore.{ClearingStore}
-use Rattle.board.specs.declared.stage.Stage.TheVariants.{Clearing}
+use Rattle.board.specs.declared.stage.Stage.TheVariants.{Idle, LoadAsked, StoreAsked, Clearing}
 use Rattle.lone.specs.Forms.{waiting_form, stage_form}
 use Rattle.lone.specs.LoneQuestions as lone
 use Rattle.lone.specs.Lones.{Lone}
@@ -27,22 +27,28 @@ use Rattle.lone.proofs.CallPosts.{arrival_posts}
 use Rattle.lone.proofs.Others.{another_is}
 use Rattle.lone.proofs.WaitingForms.{first_told}
 use Rattle.memory.specs.Calls.{Running}
-use Rattle.memory.specs.Kits.{table_of, board_at}
+use Rattle.memory.specs.Kits.{Kit, state_at, table_of, board_at}
 use Rattle.memory.proofs.kept.Histories.{Kept, left_of, delivered}
 use Rattle.memory.proofs.kept.Same.{same_mail, same_law}
 use Rattle.memory.proofs.model.History.{Ledger, call_deliver, after, Good, said_of}
 use Rattle.memory.proofs.model.Kit as kit
-use Rattle.memory.proofs.model.Page.{awaits, mark, mark_of}
+use Rattle.memory.proofs.model.Page.{busy, awaits, mark, mark_of}
 use Rattle.memory.proofs.images.Accepts.{it, st, here, seat, taken, number_is, seat_is, arrives_is, rows, told, is_expected, clearing_rooted}
 use Rattle.memory.proofs.images.Arrivals.{Fits, Replied, replied}
 use Rattle.memory.proofs.images.Expected.{to_is}
-use Rattle.memory.proofs.images.Hops.{few_hops}
+use Rattle.memory.proofs.images.Hops.{few_hops, none_asked}
 use Rattle.memory.proofs.images.Images.{W, entry_image, mail_image, post_image, map_bag, StageIs}
 use Rattle.memory.proofs.images.Matches.{Matches, StepMatches, stepped}
 use Rattle.memory.proofs.images.Fitting.{rest_fits}
 use Rattle.memory.proofs.images.Posts.{arrived}
 use Rattle.memory.proofs.images.Sets.{below_from}
-use Rattle.memory.proofs.images.Tables.{kit_after}
+use Rattle.memory.proofs.images.Tables.{kit_after, state_here, state_there}
+use Rattle.memory.proofs.images.Ledgers.{Counts, requests_are}
+use Rattle.memory.proofs.images.Outcomes.{not_asked, stays_unasked}
+use Rattle.memory.specs.Ledgers.{requests_of}
+use Rattle.memory.proofs.kept.Sets.{facts}
+use Rattle.memory.proofs.model.Board as model
+use Rattle.board.specs.declared.stage.Stage.{Stage}
 
 askers_below : (n me : ℕ) → n ≤ 16 → (rs : List Request) → waiting_form n me rs ≡ true → All (λ (r : Request). r.asker < 16) rs
 askers_below n me few [] h = tt
@@ -178,3 +184,41 @@ module _ {n p : ℕ} {ml : Ledger W} {k : kit.Kit W} {s : Running} (z : Kept sam
       (record { kit = kit_after s.kit m.to m.page (board.arrive mine entry m).state (board.arrive mine entry m).entry; limit = s.limit; waiting = (board.arrive mine entry m).posts ⊕ rest })
       (kit.becomes k m.to m.page reply.seat reply.entry reply.mails link_after)
   matches_after = stepped s k m.to m.page to_few page_few (board.arrive mine entry m).state (board.arrive mine entry m).entry reply.seat reply.entry mt.sized mt.boards matched s.limit rest link_after refl (rest_fits n p m rest s.waiting waited mt.fit)
+
+  -- as often as a request was passed on it was posted, but for the first time
+  stage_asked : (x : kit.Seat W) (r : ℕ) (d : model.Kind) → kit.asked d ≡ kit.open_on x r → x.stage ≡ kit.asked d
+  stage_asked x r d h = grind (arith, facts)
+
+  asked_not : (st : Stage) (x : kit.Seat W) (d : model.Kind) → StageIs st x → not_asked st ≡ true → x.stage ≡ kit.asked d → ⊥
+  asked_not Idle x d is h e = let y : ◌≡◌ {A = ℕ} 0 1 = cc in omega arith
+  asked_not (LoadAsked a) x d is h e = true≢false (sym h)
+  asked_not (StoreAsked a) x d is h e = true≢false (sym h)
+  asked_not (Clearing c) x d is h e = let y : ◌≡◌ {A = ℕ} 0 1 = (let q = is.0 in cc) in omega arith
+
+  abbrev pub kit_now : Kit
+  kit_now = kit_after s.kit m.to m.page (board.arrive mine entry m).state (board.arrive mine entry m).entry
+
+  unasked_now : (b : ℕ) → b < n → not_asked (state_at s.kit b).stage ≡ true → not_asked (state_at kit_now b).stage ≡ true
+  unasked_now b l h = elim (cases_eq b m.to) [
+    | inl e ↦ ap (λ x. not_asked (state_at kit_now x).stage) e
+        ∙ ap (λ (x : BoardState). not_asked x.stage) (state_here s.kit mt.sized.shape m.to m.page (omega (arith, to_few, mt.sized.few_boards)) (board.arrive mine entry m).state (board.arrive mine entry m).entry)
+        ∙ stays_unasked mine entry m (ap (λ x. not_asked (state_at s.kit x).stage) (sym e) ∙ h)
+    | inr ne ↦ ap (λ (x : BoardState). not_asked x.stage) (state_there s.kit mt.sized.shape m.to m.page (omega (arith, to_few, mt.sized.few_boards)) (board.arrive mine entry m).state (board.arrive mine entry m).entry b ne) ∙ h
+  ]
+
+  none_posted : (b : ℕ) → (b < n → not_asked (state_at s.kit b).stage ≡ true) → kit.requests b reply.mails ≡ 0
+  none_posted b h =
+      let y = went.0 in
+      let now = kit.becomes k m.to m.page reply.seat reply.entry reply.mails link_after in
+      none_asked n mt.sized.few_boards (_) now y.pages y.told m.page (y.each m.page) reply.mails link_after refl b (λ d u g j.
+          let lb : b < n = ((y.each m.page).core.ways.askers b (ap busy j)).in_range in
+          let seat = (now.board b).seat in
+          let is = (matches_after.boards.seats b lb).stage in
+          asked_not (state_at kit_now b).stage seat d is (unasked_now b lb (h lb)) (stage_asked seat m.page d (ap kit.stage_of (sym j) ∙ y.told.stages b m.page)))
+
+  pub same_requests : (b : ℕ) → requests_of b (board.arrive mine entry m).posts ≡ kit.requests b reply.mails
+  same_requests b = requests_are b m.page reply.mails (board.arrive mine entry m).posts matched.posts_are
+
+  pub counts_after : (b r q : ℕ) → Counts n s.kit b r q → Counts n kit_now b (r + requests_of b (board.arrive mine entry m).posts) (q + kit.requests b reply.mails)
+  counts_after b r q (inl e) = inl (omega (arith, e, same_requests b))
+  counts_after b r q (inr h) = let none = none_posted b h.2 in inr (omega (arith, h.0, none, same_requests b), omega (arith, h.1, none), λ l. unasked_now b l (h.2 l))

@@ -1,15 +1,15 @@
 -- A request on the link of a kit has been passed on fewer than sixteen times.
-use Rattle.std.proofs.Common.{◌≡◌, ℕ, ◌<◌, ◌≤◌, Bool, true, cond, List, [], ◌∷◌, refl, ap, sym, eqb, arith}
-use Rattle.std.proofs.lemmas.Bool.{eq-eqb}
+use Rattle.std.proofs.Common.{◌≡◌, ℕ, ◌<◌, ◌≤◌, Bool, true, cond, List, [], ◌∷◌, refl, ap, sym, ◌∙◌, inl, inr, eqb, arith}
+use Rattle.std.proofs.lemmas.Bool.{cases_eq, eq-eqb, ne_eqb}
 use Rattle.std.specs.List.{AllByRecursion as All}
 use Rattle.wire.specs.Bags.{Bag}
 use Rattle.memory.proofs.kept.Cells.{listed, times_post}
 use Rattle.memory.proofs.kept.Delivered.{request_is}
 use Rattle.memory.proofs.kept.Same.{same_mail, same_law}
-use Rattle.memory.proofs.model.Board.{Mail, request, copy, grant, invalidate, acknowledge}
+use Rattle.memory.proofs.model.Board.{Kind, Mail, request, copy, grant, invalidate, acknowledge}
 use Rattle.memory.proofs.model.Invariant.{Inv}
-use Rattle.memory.proofs.model.Kit.{Kit, Post, Maybe, absent, just, Told, post_all, mail_of, is_it, times, owner, slot}
-use Rattle.memory.proofs.model.Page.{Page, busy, far}
+use Rattle.memory.proofs.model.Kit.{Kit, Post, Maybe, absent, just, Told, post_all, mail_of, is_it, requests, asks_of, times, owner, slot}
+use Rattle.memory.proofs.model.Page.{asking, Page, busy, far}
 use Rattle.memory.proofs.model.Sums.{bit}
 use Rattle.memory.proofs.images.Images.{W}
 use Rattle.memory.proofs.images.Serving.{FewHops}
@@ -51,3 +51,23 @@ module _ (n : ℕ) (few : n ≤ 16) (v : W) (k : Kit W) (pages : ℕ → Page W)
 
   pub few_hops : All FewHops mails
   few_hops = all mails (λ x l. l)
+
+  -- who does not ask has no request posted
+  none_of : (b : ℕ) → ((d : Kind) (u h : ℕ) → (pages p).journey b ≡ asking d u h → ⊥) → (xs : List (Mail W)) → ((x : Mail W) → 0 < listed same_mail x xs → 0 < listed same_mail x mails) → requests b xs ≡ 0
+  none_of b none [] h = refl
+  none_of b none (x ∷ xs) h =
+      let first : 0 < listed same_mail x (x ∷ xs) = (let s = ap bit (same_law.self x) in omega (arith, s)) in
+      omega (arith, by x (h x first), none_of b none xs (λ y l. h y (omega (arith, l))))
+    where
+      by : (x : Mail W) → 0 < listed same_mail x mails → asks_of b x ≡ 0
+      by (request d u a g) l = elim (cases_eq a b) [
+        | inl e ↦ absurd (let j = request_is same_mail same_law n v k pages t p i rest d u a g ((pages p).journey a) (on_its_way (request d u a g) l) in none d u g (ap (pages p).journey (sym e) ∙ j))
+        | inr ne ↦ ap bit (ne_eqb a b ne)
+      ]
+      by (copy f u g w) l = refl
+      by (grant f u g c w) l = refl
+      by (invalidate f u) l = refl
+      by (acknowledge f u) l = refl
+
+  pub none_asked : (b : ℕ) → ((d : Kind) (u h : ℕ) → (pages p).journey b ≡ asking d u h → ⊥) → requests b mails ≡ 0
+  none_asked b none = none_of b none mails (λ x l. l)
