@@ -14,3 +14,6 @@ pub mod Hops
 pub mod Deliveries
 pub mod Ledgers
 pub mod Finishes
+pub mod Follows
+pub mod Accesses
+pub mod Loads

@@ -42,7 +42,7 @@ requests_app : {W : Type 0} (x : ℕ) (xs ys : List (Mail W)) → requests x (xs
 requests_app x [] ys = omega arith
 requests_app x (m ∷ xs) ys = omega (arith, requests_app x xs ys)
 
-invalidates_ask : {W : Type 0} (m a x : ℕ) (c : Boards) (ms : List (Mail W)) → ms ≡ invalidates m a c → requests x ms ≡ 0
+pub invalidates_ask : {W : Type 0} (m a x : ℕ) (c : Boards) (ms : List (Mail W)) → ms ≡ invalidates m a c → requests x ms ≡ 0
 invalidates_ask {W} m a x c ms e = ap (requests x) e ∙ go m
   where
     go : (m : ℕ) → requests x (invalidates {W = W} m a c) ≡ 0
