@@ -17,3 +17,4 @@ pub mod Finishes
 pub mod Follows
 pub mod Accesses
 pub mod Loads
+pub mod Stores
