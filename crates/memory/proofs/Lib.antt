@@ -1,4 +1,5 @@
 pub mod Placing
+pub mod Outcomes
 pub mod Splits
 pub mod Earlier
 pub mod Carried

@@ -5,6 +5,7 @@ pub mod Ledgers
 pub mod OneMemory
 pub mod Willing
 pub mod Calls
+pub mod Outcomes
 pub mod Reached
 pub mod Promises
 pub mod Witnesses

@@ -1,3 +1,4 @@
+ghost use Rattle.memory.specs.Outcomes.{NothingIsStuck};
 ghost use Rattle.memory.specs.Placements.{PlacedWords};
 ghost use Rattle.memory.specs.Promises.{IsOneMemory, IsWilling, NeverRefuses};
 ghost use Rattle.memory.specs.Witnesses.{BringsWhatAnotherStored, PassesOnOnce, NeedsAllDeliveries, PassedOnIsSharp, DeliveriesAreSharp};
@@ -8,6 +9,12 @@ ghost use Rattle.memory.specs.WrongHistories.{WrongHistoriesAreTold, RefusingIsO
 #[tactic(auto, using(crate::proofs::Placing::placed_words))]
 pub fn placed_words()
     ensures { PlacedWords }
+{}
+
+/// Every call has an outcome, so that there are histories to speak of.
+#[tactic(auto, using(crate::proofs::Outcomes::nothing_is_stuck))]
+pub fn nothing_is_stuck()
+    ensures { NothingIsStuck }
 {}
 
 /// What a kit can do.
