@@ -11,7 +11,7 @@ use Rattle.memory.specs.Kits.{table_of}
 use Rattle.memory.specs.Placements.{Placement, placed, after_placing, InRange, PlacedWords}
 
 -- sixteen pages of sixteen words
-record Shaped (es : List PageEntry) : Type 0 where
+pub record Shaped (es : List PageEntry) : Type 0 where
   pub pages : length es ≡ 16
   pub words : (p : ℕ) → p < 16 → length (entry_at es p).words ≡ 16
 
@@ -28,14 +28,14 @@ shaped_put es a w h s =
 word_put : (es : List PageEntry) (a w x : ℕ) → page_of a < 16 → Shaped es → word_at (with_word_at es a w) x ≡ cond (eqb x a) w (word_at es x)
 word_put es a w x h s = grind (arith, nat_tests, s.pages, s.words (page_of a) h, cases_eq (page_of x) (page_of a), cases_eq (place_of x) (place_of a), get_or-set_same, get_or-set_other)
 
-some_tables : (n p : ℕ) (qs : List Placement) → length (after_placing n p qs).tables ≡ 16
+pub some_tables : (n p : ℕ) (qs : List Placement) → length (after_placing n p qs).tables ≡ 16
 some_tables n p [] = refl
 some_tables n p (q ∷ qs) = search (some_tables n p qs, length-set)
 
-placed_table : (n p : ℕ) (qs : List Placement) (a w : ℕ) → table_of (placed (after_placing n p qs) a w) 0 ≡ with_word_at (table_of (after_placing n p qs) 0) a w
+pub placed_table : (n p : ℕ) (qs : List Placement) (a w : ℕ) → table_of (placed (after_placing n p qs) a w) 0 ≡ with_word_at (table_of (after_placing n p qs) 0) a w
 placed_table n p qs a w = get_or-set_same (after_placing n p qs).tables 0 _ [] (omega (arith, some_tables n p qs))
 
-shaped_placing : (n p : ℕ) (qs : List Placement) → p ≤ 16 → InRange p qs → Shaped (table_of (after_placing n p qs) 0)
+pub shaped_placing : (n p : ℕ) (qs : List Placement) → p ≤ 16 → InRange p qs → Shaped (table_of (after_placing n p qs) 0)
 shaped_placing n p [] l h = shaped_start 0
 shaped_placing n p (q ∷ qs) l h =
     subst Shaped (sym (placed_table n p qs q.address q.word))

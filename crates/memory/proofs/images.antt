@@ -9,7 +9,7 @@ pub mod Fitting
 pub mod Matches
 pub mod Expected
 pub mod Accepts
-pub mod Outcomes
+pub mod OpenAccesses
 pub mod Hops
 pub mod Deliveries
 pub mod Ledgers
@@ -18,3 +18,5 @@ pub mod Follows
 pub mod Accesses
 pub mod Loads
 pub mod Stores
+pub mod Starting
+pub mod Arriving

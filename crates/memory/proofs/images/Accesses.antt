@@ -51,7 +51,7 @@ use Rattle.memory.proofs.images.Follows.{Follows, GoesOn}
 use Rattle.memory.proofs.images.Images.{W, access_image, entry_image, request_image, post_image, put_word, StageIs, SeatIs}
 use Rattle.memory.proofs.images.Ledgers.{WordsAgree, Counts, Agrees, put_agrees, requests_are, pending_step, changed_here, changed_there}
 use Rattle.memory.proofs.images.Matches.{Sized, BoardsMatch, Matches, StepMatches, stepped}
-use Rattle.memory.proofs.images.Outcomes.{pending_of, not_asked}
+use Rattle.memory.proofs.images.OpenAccesses.{pending_of, not_asked}
 use Rattle.memory.proofs.images.Posts as whole
 use Rattle.memory.proofs.images.Serving.{Full}
 use Rattle.memory.proofs.images.Sets.{has_is, nobody_is, empty_is, invalidates_are, on_page}

@@ -32,6 +32,7 @@ use Rattle.memory.proofs.kept.Histories.{Kept, left_of, delivered}
 use Rattle.memory.proofs.kept.Same.{same_mail, same_law}
 use Rattle.memory.proofs.model.History.{Ledger, call_deliver, after, Good, said_of}
 use Rattle.memory.proofs.model.Kit as kit
+use Rattle.memory.proofs.model.Steps.{Answer}
 use Rattle.memory.proofs.model.Page.{busy, awaits, mark, mark_of}
 use Rattle.memory.proofs.images.Accepts.{it, st, here, seat, taken, number_is, seat_is, arrives_is, rows, told, is_expected, clearing_rooted}
 use Rattle.memory.proofs.images.Arrivals.{Fits, Replied, replied}
@@ -44,7 +45,7 @@ use Rattle.memory.proofs.images.Posts.{arrived}
 use Rattle.memory.proofs.images.Sets.{below_from}
 use Rattle.memory.proofs.images.Tables.{kit_after, state_here, state_there}
 use Rattle.memory.proofs.images.Ledgers.{Counts, requests_are}
-use Rattle.memory.proofs.images.Outcomes.{not_asked, stays_unasked}
+use Rattle.memory.proofs.images.OpenAccesses.{not_asked, stays_unasked}
 use Rattle.memory.specs.Ledgers.{requests_of}
 use Rattle.memory.proofs.kept.Sets.{facts}
 use Rattle.memory.proofs.model.Board as model
@@ -141,6 +142,12 @@ module _ {n p : ℕ} {ml : Ledger W} {k : kit.Kit W} {s : Running} (z : Kept sam
   -- what the model replies
   pub reply : Replied m.page (board.arrive mine entry m) (kit.arrive n mine.number chair (entry_image entry) (mail_image m) (kit.open_on chair m.page))
   reply = replied n mine entry m chair fits
+
+  abbrev pub mails : List (model.Mail W)
+  mails = reply.mails
+
+  abbrev pub says : Answer W
+  says = reply.answer
 
   abbrev link_after : Bag (kit.Post W)
   link_after = map_bag post_image rest

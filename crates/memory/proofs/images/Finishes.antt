@@ -33,7 +33,7 @@ use Rattle.memory.proofs.model.Steps.{Answer, nothing, read_at, written_at}
 use Rattle.memory.proofs.images.Arrivals.{AnswerIs}
 use Rattle.memory.proofs.images.Images.{W, put_word, StageIs}
 use Rattle.memory.proofs.images.Ledgers.{WordsAgree, Counts, Agrees, put_agrees, pending_step, changed_here, changed_there}
-use Rattle.memory.proofs.images.Outcomes.{pending_of, OwnWord, WasOpen}
+use Rattle.memory.proofs.images.OpenAccesses.{pending_of, OwnWord, WasOpen}
 use Rattle.memory.proofs.images.Tables.{Shaped, kit_after}
 
 -- the open access, in the model

@@ -21,7 +21,7 @@ use Rattle.memory.proofs.model.History.{Ledger}
 use Rattle.memory.proofs.model.Kit.{Post, requests, asks_of}
 use Rattle.memory.proofs.model.Sums.{upd}
 use Rattle.memory.proofs.images.Images.{W, mail_by, post_image, put_word}
-use Rattle.memory.proofs.images.Outcomes.{pending_of, not_asked}
+use Rattle.memory.proofs.images.OpenAccesses.{pending_of, not_asked}
 use Rattle.memory.proofs.images.Sets.{on_page}
 use Rattle.memory.proofs.images.Tables.{Shaped, kit_after, state_here, state_there}
 

@@ -33,7 +33,7 @@ use Rattle.memory.proofs.images.Follows.{Follows, GoesOn}
 use Rattle.memory.proofs.images.Images.{W, access_image, entry_image, request_image, SeatIs}
 use Rattle.memory.proofs.images.Ledgers.{Counts, Agrees}
 use Rattle.memory.proofs.images.Matches.{Matches}
-use Rattle.memory.proofs.images.Outcomes.{pending_of}
+use Rattle.memory.proofs.images.OpenAccesses.{pending_of}
 use Rattle.memory.proofs.images.Tables.{kit_after}
 
 module _ {n p : ℕ} {l : specs.Ledger} {s : Running} {w : ℕ} (f : Follows n p l s w) (b address : ℕ) (in_board : b < n) (ok : first_no (lone.access_questions (board_at s.kit b) address) ≡ None) where

@@ -33,7 +33,7 @@ use Rattle.memory.proofs.images.Follows.{Follows, GoesOn}
 use Rattle.memory.proofs.images.Images.{W, access_image, entry_image, request_image, SeatIs}
 use Rattle.memory.proofs.images.Ledgers.{Counts, Agrees}
 use Rattle.memory.proofs.images.Matches.{Matches}
-use Rattle.memory.proofs.images.Outcomes.{pending_of, not_asked}
+use Rattle.memory.proofs.images.OpenAccesses.{pending_of, not_asked}
 use Rattle.memory.proofs.images.Tables.{kit_after}
 
 use Rattle.std.proofs.lemmas.Bool.{cases_eq, and_parts, eqb-true, eqb-false, true≢false}

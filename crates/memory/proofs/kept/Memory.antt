@@ -2,7 +2,7 @@ use Rattle.std.proofs.Common.{◌≡◌, ℕ, zero, suc, ◌+◌, ◌<◌, Bool,
 use Rattle.std.proofs.lemmas.Bool.{cases_eq, cases_Bool, both_ways}
 use Rattle.memory.proofs.model.Sets.{has, Boards}
 use Rattle.memory.proofs.kept.Sets.{facts}
-use Rattle.memory.proofs.model.Sums.{upd, bit}
+use Rattle.memory.proofs.model.Sums.{upd, bit, sum_to}
 use Rattle.memory.proofs.model.Board.{write, load, store, Entry, Mail, request, copy, grant, invalidate, acknowledge, store_entry}
 use Rattle.memory.proofs.model.Page.{Mark, unmarked, sent, deferred, acked, Journey, home, asking, queued, copied, granted, clearing, Page, is_none, busy, far, cover, holder, marks}
 use Rattle.memory.proofs.model.Steps.{goes, stored_at, ask_load, ask_store, clear}
@@ -17,7 +17,7 @@ use Rattle.memory.proofs.kept.Called.{ask_told, clear_told, now_told}
 use Rattle.memory.proofs.model.Weights.{silent, quiet_mark, all_below, start as first_page}
 use Rattle.memory.proofs.kept.Moves.{own}
 use Rattle.memory.proofs.kept.Ends.{stuck}
-use Rattle.memory.proofs.kept.Histories.{Kept, delivered}
+use Rattle.memory.proofs.kept.Histories.{Kept, left_of, delivered}
 use Rattle.memory.proofs.kept.Calls.{free_is, undeferred, home_is, entry_is, opened_kept, requests_self}
 
 none_true : (n : ℕ) (c : ℕ → Bool) → none_below n c ≡ true → (y : ℕ) → y < n → c y ≡ false
@@ -207,3 +207,12 @@ start_kept same n idle v l = record {
   light = λ p x. omega arith;
   bound = λ x. omega arith;
 }
+
+sum_none : (m : ℕ) → sum_to m (λ x. 0) ≡ 0
+sum_none zero = refl
+sum_none (suc m) = omega (arith, sum_none m)
+
+-- and nothing is left to do
+pub start_left : {W : Type 0} (same : Mail W → Mail W → Bool) (n : ℕ) (idle : W) (v : ℕ → W) (l : 0 < n) → left_of (start_kept same n idle v l) ≡ 0
+unfolding start_kept
+start_left same n idle v l = sum_none n
