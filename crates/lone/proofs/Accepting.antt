@@ -1,9 +1,10 @@
 -- What it tells of a message that a lone board accepts it.
-use Rattle.std.proofs.Common.{◌≡◌, ℕ, ◌<◌, nat_le, nat_lt, Bool, true, false, not, ◌&&◌, List, [], ◌∷◌, None, refl, subst, eqb, arith}
+use Rattle.std.proofs.Common.{◌≡◌, ℕ, ◌<◌, nat_le, nat_lt, true, not, ◌&&◌, [], ◌∷◌, None, subst, eqb}
 use Rattle.std.proofs.lemmas.Bool.{and_parts, and_from, ltb-true, eqb-true}
 use Rattle.wire.specs.BoardSets.{is_below}
 use Rattle.wire.specs.Kinds.{kind_number}
 use Rattle.wire.specs.Messages.{most_hops}
+use Rattle.wire.proofs.Questions.{yes}
 use Rattle.wire.specs.Questions.{first_no, inside}
 use Rattle.wire.specs.declared.message.Message.{Message}
 use Rattle.records.specs.Forms.{has_parties, in_range, kind_form}
@@ -12,11 +13,6 @@ use Rattle.lone.specs.LoneQuestions.{access_questions, arrival_questions, belong
 use Rattle.lone.specs.Sizes.{has_address}
 use Rattle.lone.specs.Forms.{another}
 use Rattle.board.specs.Stages.{is_idle}
-
--- where no question is answered no, the first is answered yes, and so are the others
-yes : (n : ℕ) (b : Bool) (qs : List (ℕ × Bool)) → first_no ((n, b) ∷ qs) ≡ None → (b ≡ true) × (first_no qs ≡ None)
-yes n true qs e = (refl, e)
-yes n false qs e = let never : ◌≡◌ {A = ℕ} 0 1 = cc in absurd (omega arith)
 
 pub access_told : (l : Lone) (address : ℕ) → first_no (access_questions l address) ≡ None → (has_address l.pages address ≡ true) × (is_idle l.state.stage ≡ true)
 access_told l address e =

@@ -13,3 +13,4 @@ pub mod Refusing
 pub mod model
 pub mod kept
 pub mod images
+pub mod OneMemory

@@ -5,6 +5,16 @@ ghost use Rattle.memory.specs.Witnesses.{BringsWhatAnotherStored, PassesOnOnce, 
 ghost use Rattle.memory.specs.LeastBounds.{PassesThroughAll, AllAreNeeded, BoundsAreLeast};
 ghost use Rattle.memory.specs.WrongHistories.{WrongHistoriesAreTold, RefusingIsOneMemory, RefusingIsNotWilling};
 
+/// Over whatever link, whatever is called and in whatever order messages are delivered, the boards of a kit are one memory:
+/// each answer is the array's, no request is passed on more than N - 2 times, 3N - 4 deliveries for each open access answer
+/// them all, and nothing is refused but what the questions of a call refuse.
+#[tactic(auto, using(crate::proofs::OneMemory::is_one_memory, crate::proofs::OneMemory::never_refuses))]
+pub fn one_memory()
+    ensures one_memory { IsOneMemory }
+    ensures willing { IsWilling }
+    ensures never_refuses { NeverRefuses }
+{}
+
 /// A kit begins with the words that were placed, else zeros.
 #[tactic(auto, using(crate::proofs::Placing::placed_words))]
 pub fn placed_words()

@@ -1,16 +1,12 @@
 -- What the answers to the questions of a record tell of its bytes.
-use Rattle.std.proofs.Common.{◌≡◌, ℕ, Bool, true, false, ◌&&◌, eqb, List, [], ◌∷◌, Some, None, refl, arith}
+use Rattle.std.proofs.Common.{◌≡◌, ℕ, true, ◌&&◌, eqb, List, [], ◌∷◌, Some, None}
 use lib.ListN as lists
 use Rattle.std.proofs.lemmas.Bool.{and_parts, eqb-true, ne_eqb}
+use Rattle.wire.proofs.Questions.{yes}
 use Rattle.wire.specs.Questions.{first_no, inside}
 use Rattle.records.specs.Forms.{form_questions, kind_form, has_parties, in_range}
 use Rattle.records.specs.Layouts.{message_in, record_questions, unused_zero}
 use Rattle.records.specs.Numbers.{byte}
-
--- where no question is answered no, the first is answered yes, and so are the others
-yes : (n : ℕ) (b : Bool) (qs : List (ℕ × Bool)) → first_no ((n, b) ∷ qs) ≡ None → (b ≡ true) × (first_no qs ≡ None)
-yes n true qs e = (refl, e)
-yes n false qs e = let never : ◌≡◌ {A = ℕ} 0 1 = cc in absurd (omega arith)
 
 pub record Accepted (bs : List ℕ) : Type 0 where
   pub length : lists.length bs ≡ 80

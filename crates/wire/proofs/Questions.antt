@@ -4,6 +4,11 @@ use Rattle.wire.specs.Questions.{first_no, refusal}
 use Rattle.wire.specs.Faults.{number}
 use Rattle.wire.specs.declared.fault.Fault.{Fault}
 
+-- where no question is answered no, the first is answered yes, and so are the others
+pub yes : (n : ℕ) (b : Bool) (qs : List (ℕ × Bool)) → first_no ((n, b) ∷ qs) ≡ None → (b ≡ true) × (first_no qs ≡ None)
+yes n true qs e = (refl, e)
+yes n false qs e = let never : Some n ≡ None = e in absurd (cc)
+
 pub refused_before : (qs rs : List (ℕ × Bool)) (n : ℕ) → first_no qs ≡ Some n → first_no (qs ++ rs) ≡ Some n
 refused_before [] rs n h = let never : None ≡ Some n = h in absurd (cc)
 refused_before ((m, true) ∷ qs) rs n h = refused_before qs rs n h

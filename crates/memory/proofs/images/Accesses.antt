@@ -1,61 +1,49 @@
 -- A load or a store in a kit is one in the model.
-use Rattle.std.proofs.Common.{◌≡◌, ℕ, zero, suc, ◌+◌, ◌-◌, ◌*◌, ◌<◌, ◌≤◌, Bool, true, false, not, cond, ◌&&◌, ◌||◌, ◌⊎◌, eqb, List, [], ◌∷◌, map, length, replicate, set, get_or, Some, None, Ok, Option, refl, ap, ◌∙◌, sym, subst, inl, inr, arith}
-use Rattle.std.proofs.lemmas.Bool.{cases_eq, ne_eqb, and_parts, eqb-true, eqb-false, eq-eqb, ltb-true, true≢false}
+use Rattle.std.proofs.Common.{◌≡◌, ℕ, ◌+◌, ◌-◌, ◌*◌, ◌<◌, ◌≤◌, Bool, true, false, ◌⊎◌, List, [], ◌∷◌, map, length, replicate, set, Some, None, refl, ap, ◌∙◌, sym, subst, inl, inr, arith}
+use Rattle.std.proofs.lemmas.Bool.{cases_eq, ne_eqb, eq-eqb, ltb-true, true≢false}
 use Rattle.std.proofs.lemmas.List.{set-get_or}
 use Rattle.std.specs.List.{AllByRecursion as All}
-use Rattle.wire.specs.Bags.{Bag, ◌⊕◌, size}
+use Rattle.wire.specs.Bags.{◌⊕◌}
 use Rattle.wire.specs.BoardSets as sets
 use Rattle.wire.specs.Questions.{first_no}
 use Rattle.wire.proofs.Sending.{size_beside}
 use Rattle.wire.specs.declared.message.Message.{Message}
-use Rattle.board.specs.Addresses.{page_of, place_of}
+use Rattle.board.specs.Addresses.{page_of}
 use Rattle.board.specs.Boards.{BoardState, at_stage}
 use Rattle.board.specs.Openings as board
 use Rattle.board.specs.Posts as posts
-use Rattle.board.specs.Serving.{owns}
 use Rattle.board.specs.Stages.{is_idle}
-use Rattle.board.specs.declared.answer.AccessAnswer.TheVariants.{Answered, Opened}
-use Rattle.board.specs.declared.entry.Access as entries
-use Rattle.board.specs.declared.entry.Access.TheVariants as access
 use Rattle.board.specs.declared.entry.PageEntry.{PageEntry}
 use Rattle.board.specs.declared.request.AccessKind.{AccessKind}
 use Rattle.board.specs.declared.stage.Stage.{Stage}
 use Rattle.board.specs.declared.stage.Stage.TheVariants.{Idle, LoadAsked, StoreAsked, Clearing}
-use Rattle.lone.specs.Forms.{reads, writes, is_none, lone_form, stage_form, owner_form}
+use Rattle.lone.specs.Forms.{is_none, lone_form, stage_form}
 use Rattle.lone.specs.LoneQuestions as lone
 use Rattle.lone.specs.Lones.{Lone, after_step}
 use Rattle.lone.specs.PostLaws.{GoodPost}
-use Rattle.lone.specs.Sizes.{has_address}
 use Rattle.lone.specs.Tables.{entry_at, no_entry}
 use Rattle.lone.proofs.Accepting.{access_told}
 use Rattle.lone.proofs.CallPosts.{load_posts, store_posts}
-use Rattle.lone.proofs.EntryForms.{EntryTold, owner_rest, writer_told, no_access}
+use Rattle.lone.proofs.EntryForms.{EntryTold}
 use Rattle.lone.proofs.LoneForms.{LoneTold, lone_told, loaded_kept, stored_kept}
 use Rattle.memory.specs.Calls.{Running}
-use Rattle.memory.specs.Histories.{Access, load, store}
+use Rattle.memory.specs.Histories.{Access}
 use Rattle.memory.specs.Kits.{Kit, state_at, table_of, board_at}
 use Rattle.memory.specs.Ledgers as specs
-use Rattle.memory.specs.declared.answer.Answer.TheVariants.{Accessed}
-use Rattle.memory.specs.declared.call.Call.TheVariants.{Load, Store}
-use Rattle.memory.proofs.kept.Histories.{Kept, left_of}
-use Rattle.memory.proofs.kept.Memory.{does_kept}
-use Rattle.memory.proofs.kept.Same.{same_mail, same_law}
 use Rattle.memory.proofs.kept.Summed.{upd_same, upd_other}
 use Rattle.memory.proofs.model.Board as model
 use Rattle.memory.proofs.model.History as history
 use Rattle.memory.proofs.model.Kit as kit
-use Rattle.memory.proofs.model.Page.{is_none as none_there}
-use Rattle.memory.proofs.model.Sets.{has}
 use Rattle.memory.proofs.model.Sums.{upd, bit}
-use Rattle.memory.proofs.images.Follows.{Follows, GoesOn}
-use Rattle.memory.proofs.images.Images.{W, access_image, entry_image, request_image, post_image, put_word, StageIs, SeatIs}
-use Rattle.memory.proofs.images.Ledgers.{WordsAgree, Counts, Agrees, put_agrees, requests_are, pending_step, changed_here, changed_there}
-use Rattle.memory.proofs.images.Matches.{Sized, BoardsMatch, Matches, StepMatches, stepped}
+use Rattle.memory.proofs.images.Follows.{Follows}
+use Rattle.memory.proofs.images.Images.{W, entry_image, post_image, StageIs, SeatIs}
+use Rattle.memory.proofs.images.Ledgers.{Counts, Agrees, requests_are, pending_step, changed_here, changed_there}
+use Rattle.memory.proofs.images.Matches.{Matches, stepped}
 use Rattle.memory.proofs.images.OpenAccesses.{pending_of, not_asked}
 use Rattle.memory.proofs.images.Posts as whole
 use Rattle.memory.proofs.images.Serving.{Full}
-use Rattle.memory.proofs.images.Sets.{has_is, nobody_is, empty_is, invalidates_are, on_page}
-use Rattle.memory.proofs.images.Tables.{Shaped, kit_after, state_here, state_there}
+use Rattle.memory.proofs.images.Sets.{on_page}
+use Rattle.memory.proofs.images.Tables.{kit_after, state_here, state_there}
 
 -- a step that changes nothing
 pub unchanged : (k : Kit) (b r : ℕ) → kit_after k b r (state_at k b) (entry_at (table_of k b) r) ≡ k

@@ -1,33 +1,32 @@
 -- A delivery in a kit: answered rightly, taken from the work that is left, and the model follows.
-use Rattle.std.proofs.Common.{◌≡◌, ℕ, zero, suc, ◌+◌, ◌-◌, ◌*◌, ◌<◌, ◌≤◌, List, [], Some, None, Ok, Option, refl, ap, ◌∙◌, sym, subst, inl, inr, arith}
-use Rattle.wire.specs.Bags.{Bag, empty, ◌&◌, ◌⊕◌, size}
+use Rattle.std.proofs.Common.{◌≡◌, ℕ, zero, suc, ◌+◌, ◌-◌, ◌*◌, List, [], Some, None, Ok, Option, refl, ap, ◌∙◌, inl, inr, arith}
+use Rattle.wire.specs.Bags.{Bag, empty, ◌&◌, ◌⊕◌}
 use Rattle.wire.specs.declared.message.Message.{Message}
 use Rattle.board.specs.Boards.{BoardState}
 use Rattle.board.specs.Steps as board
 use Rattle.board.specs.declared.answer.Finished.{Finished}
 use Rattle.memory.specs.Calls.{Running}
 use Rattle.memory.specs.Ledgers as specs
-use Rattle.memory.specs.OneMemory.{FinishIsRight, DeliveryIsRight}
+use Rattle.memory.specs.OneMemory.{DeliveryIsRight}
 use Rattle.memory.specs.declared.answer.Answer.TheVariants.{Arrived, Quiet}
 use Rattle.memory.specs.declared.call.Call.TheVariants.{Deliver}
 use Rattle.memory.proofs.kept.Drained.{left_bound}
-use Rattle.memory.proofs.kept.Histories.{Kept, left_of}
+use Rattle.memory.proofs.kept.Histories.{left_of}
 use Rattle.memory.proofs.kept.Memory.{quiet_none}
-use Rattle.memory.proofs.kept.Same.{same_mail, same_law}
+use Rattle.memory.proofs.kept.Same.{same_law}
 use Rattle.memory.proofs.model.Board as model
 use Rattle.memory.proofs.model.History as history
 use Rattle.memory.proofs.model.Kit as kit
 use Rattle.memory.proofs.model.Steps.{Answer}
 use Rattle.memory.proofs.model.Sums.{sum_to, bit}
-use Rattle.memory.proofs.images.Accepts.{it, st, here, seat, number_is, seat_is, told}
+use Rattle.memory.proofs.images.Accepts.{st, here, seat, number_is, seat_is, told}
 use Rattle.memory.proofs.images.Arrivals.{AnswerIs}
 use Rattle.memory.proofs.images.Deliveries as delivery
 use Rattle.memory.proofs.images.Finishes as finish
 use Rattle.memory.proofs.images.Follows.{Follows, GoesOn}
 use Rattle.memory.proofs.images.Images.{W, map_bag, post_image}
 use Rattle.memory.proofs.images.Ledgers.{Counts, Agrees, counted}
-use Rattle.memory.proofs.images.Matches.{Matches}
-use Rattle.memory.proofs.images.OpenAccesses.{Goes, WasOpen, arrived}
+use Rattle.memory.proofs.images.OpenAccesses.{Goes, arrived}
 
 module _ {n p : ℕ} {l : specs.Ledger} {s : Running} {w : ℕ} (f : Follows n p l s w) where
   -- a message

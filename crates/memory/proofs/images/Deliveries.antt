@@ -75,7 +75,7 @@ module _ {n p : ℕ} {ml : Ledger W} {k : kit.Kit W} {s : Running} (z : Kept sam
   page_few = (it z mt m rest waited).page
 
   -- its receiver asks it nothing that it does not answer
-  belongs : lone.belongs lone_board m ≡ true
+  pub belongs : lone.belongs lone_board m ≡ true
   belongs =
       let f = it z mt m rest waited in
       let b = mt.sized.boards in
@@ -218,10 +218,10 @@ module _ {n p : ℕ} {ml : Ledger W} {k : kit.Kit W} {s : Running} (z : Kept sam
       let y = went.0 in
       let now = kit.becomes k m.to m.page reply.seat reply.entry reply.mails link_after in
       none_asked n mt.sized.few_boards (_) now y.pages y.told m.page (y.each m.page) reply.mails link_after refl b (λ d u g j.
-          let lb : b < n = ((y.each m.page).core.ways.askers b (ap busy j)).in_range in
-          let seat = (now.board b).seat in
-          let is = (matches_after.boards.seats b lb).stage in
-          asked_not (state_at kit_now b).stage seat d is (unasked_now b lb (h lb)) (stage_asked seat m.page d (ap kit.stage_of (sym j) ∙ y.told.stages b m.page)))
+      let lb : b < n = ((y.each m.page).core.ways.askers b (ap busy j)).in_range in
+      let seat = (now.board b).seat in
+      let is = (matches_after.boards.seats b lb).stage in
+      asked_not (state_at kit_now b).stage seat d is (unasked_now b lb (h lb)) (stage_asked seat m.page d (ap kit.stage_of (sym j) ∙ y.told.stages b m.page)))
 
   pub same_requests : (b : ℕ) → requests_of b (board.arrive mine entry m).posts ≡ kit.requests b reply.mails
   same_requests b = requests_are b m.page reply.mails (board.arrive mine entry m).posts matched.posts_are

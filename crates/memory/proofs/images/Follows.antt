@@ -1,9 +1,9 @@
 -- What is kept between a history's ledger, a running kit and the model, and what an event leaves of it.
-use Rattle.std.proofs.Common.{◌≡◌, ℕ, ◌+◌, ◌-◌, ◌*◌, ◌≤◌, List, Ok, Err, Result}
+use Rattle.std.proofs.Common.{◌≡◌, ℕ, ◌+◌, ◌-◌, ◌*◌, ◌≤◌, List, Result}
 use Rattle.wire.specs.declared.fault.Fault.{Fault}
 use Rattle.wire.specs.declared.message.Message.{Message}
 use Rattle.memory.specs.Calls.{Running}
-use Rattle.memory.specs.Histories.{Event, IsDelivery}
+use Rattle.memory.specs.Histories.{IsDelivery}
 use Rattle.memory.specs.Ledgers as specs
 use Rattle.memory.specs.OneMemory.{AnswerIsRight}
 use Rattle.memory.specs.declared.answer.Answer.{Answer}

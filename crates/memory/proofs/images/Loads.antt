@@ -1,12 +1,11 @@
 -- A load in a kit: answered rightly, and the model follows.
-use Rattle.std.proofs.Common.{◌≡◌, ℕ, ◌+◌, ◌-◌, ◌*◌, ◌<◌, ◌≤◌, Bool, true, false, List, [], ◌∷◌, map, get_or, Some, None, Ok, refl, ap, ◌∙◌, sym, subst, inl, inr, arith}
+use Rattle.std.proofs.Common.{◌≡◌, ℕ, ◌+◌, ◌-◌, ◌*◌, ◌<◌, false, List, [], ◌∷◌, map, get_or, None, Ok, refl, ap, ◌∙◌, sym, subst, inl, inr, arith}
 use Rattle.wire.specs.Bags.{◌⊕◌}
 use Rattle.wire.specs.Questions.{first_no}
 use Rattle.board.specs.Addresses.{page_of, place_of}
-use Rattle.board.specs.Boards.{BoardState, at_stage}
+use Rattle.board.specs.Boards.{BoardState}
 use Rattle.board.specs.Openings as board
 use Rattle.board.specs.Posts.{own_request}
-use Rattle.board.specs.declared.answer.AccessAnswer.TheVariants.{Answered, Opened}
 use Rattle.board.specs.declared.entry.Access.{Access as Kind}
 use Rattle.board.specs.declared.entry.Access.TheVariants as access
 use Rattle.board.specs.declared.entry.PageEntry.{PageEntry}
@@ -16,21 +15,21 @@ use Rattle.board.specs.declared.stage.Stage.TheVariants.{LoadAsked}
 use Rattle.lone.specs.LoneQuestions as lone
 use Rattle.lone.specs.Tables.{entry_at}
 use Rattle.memory.specs.Calls.{Running}
-use Rattle.memory.specs.Histories.{Access, load}
-use Rattle.memory.specs.Kits.{Kit, state_at, table_of, board_at}
+use Rattle.memory.specs.Histories.{load}
+use Rattle.memory.specs.Kits.{state_at, table_of, board_at}
 use Rattle.memory.specs.Ledgers as specs
 use Rattle.memory.specs.declared.answer.Answer.TheVariants.{Accessed}
 use Rattle.memory.specs.declared.call.Call.TheVariants.{Load}
-use Rattle.memory.proofs.kept.Histories.{Kept, left_of}
+use Rattle.memory.proofs.kept.Histories.{left_of}
 use Rattle.memory.proofs.kept.Memory.{does_kept}
-use Rattle.memory.proofs.kept.Same.{same_mail, same_law}
+use Rattle.memory.proofs.kept.Same.{same_law}
 use Rattle.memory.proofs.model.Board as model
 use Rattle.memory.proofs.model.History as history
 use Rattle.memory.proofs.model.Kit as kit
 use Rattle.memory.proofs.model.Page.{is_none}
 use Rattle.memory.proofs.images.Accesses as at
 use Rattle.memory.proofs.images.Follows.{Follows, GoesOn}
-use Rattle.memory.proofs.images.Images.{W, access_image, entry_image, request_image, SeatIs}
+use Rattle.memory.proofs.images.Images.{W, access_image, request_image}
 use Rattle.memory.proofs.images.Ledgers.{Counts, Agrees}
 use Rattle.memory.proofs.images.Matches.{Matches}
 use Rattle.memory.proofs.images.OpenAccesses.{pending_of}

@@ -1,9 +1,8 @@
 -- The model follows a kit that just started.
-use Rattle.std.proofs.Common.{◌≡◌, ℕ, zero, suc, ◌+◌, ◌*◌, ◌<◌, ◌≤◌, Bool, true, false, cond, eqb, List, [], ◌∷◌, map, length, set, replicate, get_or, None, refl, ap, ◌∙◌, sym, subst, inl, inr, arith}
+use Rattle.std.proofs.Common.{◌≡◌, ℕ, zero, suc, ◌+◌, ◌*◌, ◌<◌, ◌≤◌, Bool, true, cond, List, [], ◌∷◌, map, length, get_or, refl, ap, ◌∙◌, sym, subst, inl, inr, arith}
 use Rattle.std.proofs.lemmas.Bool.{cases_eq, ne_eqb}
-use Rattle.std.proofs.lemmas.List.{length-set, length-replicate, get_or-replicate, get_or-set_same, get_or-set_other}
+use Rattle.std.proofs.lemmas.List.{length-replicate, get_or-replicate, get_or-set_same, get_or-set_other}
 use Rattle.std.specs.List.{range_with_len}
-use Rattle.wire.specs.Bags.{empty}
 use Rattle.wire.specs.BoardSets.{no_boards}
 use Rattle.board.specs.Addresses.{page_of, place_of}
 use Rattle.board.specs.Boards.{BoardState, start_state}
@@ -11,33 +10,28 @@ use Rattle.board.specs.Entries.{start_entry, with_word, zeros}
 use Rattle.board.specs.declared.entry.Access.TheVariants as access
 use Rattle.board.specs.declared.entry.PageEntry.{PageEntry}
 use Rattle.lone.specs.Forms.{lone_form, stage_form}
-use Rattle.lone.specs.Lones.{Lone, after_step, start_lone}
+use Rattle.lone.specs.Lones.{Lone, after_step}
 use Rattle.lone.specs.Tables.{start_table, entry_at, no_entry, with_word_at}
-use Rattle.lone.proofs.EntryForms.{EntryTold}
 use Rattle.lone.proofs.LoneForms.{lone_told, step_kept, start_form}
-use Rattle.memory.specs.Kits.{Kit, start_kit, state_at, table_of, board_at}
+use Rattle.memory.specs.Kits.{Kit, state_at, table_of, board_at}
 use Rattle.memory.specs.Ledgers.{fresh}
-use Rattle.memory.specs.Placements.{Placement, InRange, array, placed, after_placing}
-use Rattle.memory.specs.Reached.{MayBegin, begun}
-use Rattle.memory.proofs.Placing.{Shaped, placed_table, shaped_placing, some_tables, placed_words}
-use Rattle.memory.proofs.kept.Histories.{Kept, left_of}
+use Rattle.memory.specs.Placements.{Placement, InRange, array, after_placing}
+use Rattle.memory.specs.Reached.{begun}
+use Rattle.memory.proofs.Placing.{placed_table, shaped_placing, some_tables, placed_words}
 use Rattle.memory.proofs.kept.Memory.{start_kept, start_left}
 use Rattle.memory.proofs.kept.Same.{same_mail}
 use Rattle.memory.proofs.model.Board as model
 use Rattle.memory.proofs.model.History as history
 use Rattle.memory.proofs.model.Kit as kit
 use Rattle.memory.proofs.model.Sets.{nobody}
-use Rattle.memory.proofs.model.Sums.{sum_to}
 use Rattle.board.specs.declared.stage.Stage.TheVariants.{Idle}
 use Rattle.memory.proofs.images.Serving.{Full}
-use Rattle.memory.proofs.images.Fitting.{AllFit}
 use Rattle.memory.proofs.images.Follows.{Follows}
 use Rattle.memory.proofs.images.Images.{W, entry_image, SeatIs}
 use Rattle.memory.proofs.images.Ledgers.{Agrees}
-use Rattle.memory.proofs.images.Matches.{Sized, BoardsMatch, Matches}
+use Rattle.memory.proofs.images.Matches.{Sized, Matches}
 use Rattle.memory.proofs.images.OpenAccesses.{pending_of, not_asked}
 use Rattle.memory.proofs.images.Sets.{nobody_is}
-use Rattle.memory.proofs.images.Tables as tables
 
 -- the item at a place of a numbered list
 numbered : {X : Type 0} (f : ℕ → X) (a len i : ℕ) (d : X) → i < len → get_or (map f (range_with_len a len)) i d ≡ f (a + i)
@@ -94,7 +88,7 @@ module _ (n p : ℕ) where
       let t = lone_told was rows form in
       let told = t.entries page (omega (arith, h.0, l)) in
       let kept = step_kept was rows form page was.state (with_word e (place_of q.address) q.word) refl (record { hint = told.hint; copies = told.copies; apart = told.apart; rest = told.rest }) t.waiting
-          (idle was page (with_word e (place_of q.address) q.word) (ap (λ (x : BoardState). x.stage) (state_is qs 0 (omega arith))) (t.stage)) in
+      (idle was page (with_word e (place_of q.address) q.word) (ap (λ (x : BoardState). x.stage) (state_is qs 0 (omega arith))) (t.stage)) in
       ap (λ x. lone_form (record { boards = (after_placing n p qs).boards; pages = (after_placing n p qs).pages; state = was.state; table = x })) (placed_table n p qs q.address q.word) ∙ kept
     where
       idle : (x : Lone) (page : ℕ) (e : PageEntry) → x.state.stage ≡ Idle → stage_form x x.state.stage ≡ true → stage_form (after_step x page x.state e) x.state.stage ≡ true

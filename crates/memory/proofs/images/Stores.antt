@@ -1,12 +1,11 @@
 -- A store in a kit: answered rightly, and the model follows.
-use Rattle.std.proofs.Common.{◌≡◌, ℕ, ◌+◌, ◌-◌, ◌*◌, ◌<◌, ◌≤◌, Bool, true, false, List, [], ◌∷◌, map, get_or, replicate, length, ◌⊎◌, cond, not, ◌&&◌, ◌||◌, eqb, Some, None, Ok, refl, ap, ◌∙◌, sym, subst, inl, inr, arith}
+use Rattle.std.proofs.Common.{◌≡◌, ℕ, ◌+◌, ◌<◌, Bool, true, false, List, [], ◌∷◌, map, replicate, length, ◌⊎◌, cond, not, ◌||◌, None, Ok, refl, ap, ◌∙◌, sym, subst, inl, inr, arith}
 use Rattle.wire.specs.Bags.{◌⊕◌}
 use Rattle.wire.specs.Questions.{first_no}
-use Rattle.board.specs.Addresses.{page_of, place_of}
-use Rattle.board.specs.Boards.{BoardState, at_stage}
+use Rattle.board.specs.Addresses.{page_of}
+use Rattle.board.specs.Boards.{BoardState}
 use Rattle.board.specs.Openings as board
 use Rattle.board.specs.Posts.{own_request, invalidates}
-use Rattle.board.specs.declared.answer.AccessAnswer.TheVariants.{Answered, Opened}
 use Rattle.board.specs.declared.entry.Access.{Access as Kind}
 use Rattle.board.specs.declared.entry.Access.TheVariants as access
 use Rattle.board.specs.declared.entry.PageEntry.{PageEntry}
@@ -16,32 +15,29 @@ use Rattle.board.specs.declared.stage.Stage.TheVariants.{StoreAsked, Clearing}
 use Rattle.lone.specs.LoneQuestions as lone
 use Rattle.lone.specs.Tables.{entry_at}
 use Rattle.memory.specs.Calls.{Running}
-use Rattle.memory.specs.Histories.{Access, store}
-use Rattle.memory.specs.Kits.{Kit, state_at, table_of, board_at}
+use Rattle.memory.specs.Histories.{store}
+use Rattle.memory.specs.Kits.{state_at, table_of, board_at}
 use Rattle.memory.specs.Ledgers as specs
 use Rattle.memory.specs.declared.answer.Answer.TheVariants.{Accessed}
 use Rattle.memory.specs.declared.call.Call.TheVariants.{Store}
-use Rattle.memory.proofs.kept.Histories.{Kept, left_of}
+use Rattle.memory.proofs.kept.Histories.{left_of}
 use Rattle.memory.proofs.kept.Memory.{does_kept}
-use Rattle.memory.proofs.kept.Same.{same_mail, same_law}
+use Rattle.memory.proofs.kept.Same.{same_law}
 use Rattle.memory.proofs.model.Board as model
 use Rattle.memory.proofs.model.History as history
 use Rattle.memory.proofs.model.Kit as kit
 use Rattle.memory.proofs.model.Page.{is_none}
 use Rattle.memory.proofs.images.Accesses as at
 use Rattle.memory.proofs.images.Follows.{Follows, GoesOn}
-use Rattle.memory.proofs.images.Images.{W, access_image, entry_image, request_image, SeatIs}
-use Rattle.memory.proofs.images.Ledgers.{Counts, Agrees}
-use Rattle.memory.proofs.images.Matches.{Matches}
+use Rattle.memory.proofs.images.Images.{W, access_image, entry_image, request_image}
+use Rattle.memory.proofs.images.Ledgers.{Counts}
 use Rattle.memory.proofs.images.OpenAccesses.{pending_of, not_asked}
 use Rattle.memory.proofs.images.Tables.{kit_after}
-
 use Rattle.std.proofs.lemmas.Bool.{cases_eq, and_parts, eqb-true, eqb-false, true≢false}
 use Rattle.wire.specs.BoardSets as sets
 use Rattle.wire.specs.declared.board_set.BoardSet.{BoardSet}
-use Rattle.wire.specs.declared.message.Message.{Message}
 use Rattle.board.specs.Serving.{owns}
-use Rattle.lone.specs.Forms.{reads, writes, owner_form}
+use Rattle.lone.specs.Forms.{reads, writes}
 use Rattle.lone.proofs.EntryForms.{EntryTold, owner_rest, writer_told}
 use Rattle.memory.proofs.kept.Memory.{invalidates_ask}
 use Rattle.memory.proofs.model.Board.{write}
@@ -165,9 +161,9 @@ module _ {n p : ℕ} {l : specs.Ledger} {s : Running} {w : ℕ} (f : Follows n p
       let kept = does_kept same_law f.kept does in
       let seat = kit.opened_seat page (kit.clears 0) act (has entry.copies) in
       let same : map (on_page page) mails ≡ map post_image (invalidates st.number page e.copies) =
-          ap (λ (x : model.Entry W). map (on_page page) (kit.invalidates n b x.copies)) image
-          ∙ ap (λ x. map (on_page page) (kit.invalidates n x e.copies.members)) (sym (at.number f b address in_board ok))
-          ∙ invalidates_are n st.number page e.copies f.matches.sized.few_boards below in
+      ap (λ (x : model.Entry W). map (on_page page) (kit.invalidates n b x.copies)) image
+      ∙ ap (λ x. map (on_page page) (kit.invalidates n x e.copies.members)) (sym (at.number f b address in_board ok))
+      ∙ invalidates_are n st.number page e.copies f.matches.sized.few_boards below in
       record {
         work_left = left_of kept.0;
         follows = record {
