@@ -151,10 +151,6 @@ pub history_append : (d : Desk) (cs ds : List Call) → history d (cs ++ ds) ≡
 history_append d [] ds = refl
 history_append d (c ∷ cs) ds = ap (λ h. event_of c (move d c) ∷ h) (history_append (move d c).after cs ds)
 
-pub after_append : (d : Desk) (cs ds : List Call) → after d (cs ++ ds) ≡ after (after d cs) ds
-after_append d [] ds = refl
-after_append d (c ∷ cs) ds = after_append (move d c).after cs ds
-
 pub length_history : (d : Desk) (cs : List Call) → length (history d cs) ≡ length cs
 length_history d [] = refl
 length_history d (c ∷ cs) = omega (arith, length_history (move d c).after cs)

@@ -54,13 +54,6 @@ module _ {W : Type 0} {same : Mail W → Mail W → Bool} {n : ℕ} {l : Ledger 
   shut_absent : (x : ℕ) → (k.board x).seat.stage ≡ closed → l.opens x ≡ absent
   shut_absent x c = i.opens x ∙ ap (λ z. op_by z (k.board x).seat.page (k.board x).seat.act) c
 
-  -- passed on n - 2 times at most
-  pub passed_bound : (x : ℕ) → is_open (l.opens x) ≡ true → l.passed x + 2 ≤ n
-  passed_bound x o = elim (stage_cases (k.board x).seat.stage) [
-    | inl c ↦ absurd (both_ways (is_open (l.opens x)) (ap is_open (shut_absent x c)) o)
-    | inr ne ↦ let b = open_busy x ne in omega (arith, i.passed x b, ((i.each (k.board x).seat.page).core.ways.askers x b).bound)
-  ]
-
   -- with nothing left to do nothing is open
   pub none_left : left_of i ≡ 0 → (x : ℕ) → l.opens x ≡ absent
   none_left z x = elim (stage_cases (k.board x).seat.stage) [
@@ -90,23 +83,3 @@ module _ {W : Type 0} {same : Mail W → Mail W → Bool} {n : ℕ} {l : Ledger 
             let y : (3 * n - 4) * bit (is_open (l.opens x)) ≡ 3 * n - 4 = rw z (omega arith) in
             omega (arith, i.light (k.board x).seat.page x)
       ]
-
-  -- where nothing is open nothing flies
-  pub shut_empty : Equality same → ((x : ℕ) → l.opens x ≡ absent) → (p : ℕ) (m : Mail W) (rest : Bag (Post W)) → k.link ≡ record { page = p; mail = m } & rest → ⊥
-  shut_empty law none_open p m rest e =
-      let f = taken_flies same law p m k.link rest (i.pages p).journey e (i.told.mails p) in
-      let o = owner m in
-      let c : (k.board o).seat.stage ≡ closed = shut_of (k.board o).seat.stage (k.board o).seat.page (k.board o).seat.act (sym (i.opens o) ∙ none_open o) in
-      let h : (i.pages p).journey o ≡ home = home_of ((i.pages p).journey o) (i.told.stages o p ∙ on_shut (k.board o).seat p c) in
-      let z : mail_of o ((i.pages p).journey o) (slot m) ≡ absent = ap (λ t. mail_of o t (slot m)) h in
-      let y : ◌≡◌ {A = ℕ} 0 1 = cc in
-      omega arith
-    where
-      shut_of : (s : Stage) (p : ℕ) (f : W → W) → op_by s p f ≡ absent → s ≡ closed
-      shut_of s p f e = grind arith
-
-      home_of : (j : Journey W) → stage_of j ≡ closed → j ≡ home
-      home_of j e = grind arith
-
-      on_shut : (s : Seat W) (p : ℕ) → s.stage ≡ closed → open_on s p ≡ closed
-      on_shut s p e = grind (arith, facts)

@@ -7,14 +7,6 @@ use Rattle.memory.proofs.model.Invariant.{Holders, Inv}
 use Rattle.memory.proofs.model.Weights.{quiet_mark, all_below, silent}
 use Rattle.memory.proofs.kept.Trees.{walk}
 
--- a test that fails somewhere below n, or holds everywhere there
-look : (n : ℕ) (f : ℕ → Bool) → ((y : ℕ) × (y < n) × (f y ≡ false)) ⊎ ((y : ℕ) → y < n → f y ≡ true)
-look zero f = inr (λ y l. absurd (omega arith))
-look (suc n) f = elim (cases_Bool (f n)) [
-  | inl t ↦ elim (look n f) [ inl w ↦ inl (w.0, omega (arith, w.1), w.2) | inr h ↦ inr (λ y l. elim (cases_eq y n) [ inl e ↦ ap f e ∙ t | inr ne ↦ h y (omega arith) ]) ]
-  | inr t ↦ inl (n, omega arith, t)
-]
-
 all_below_at : (n : ℕ) (f : ℕ → Bool) → all_below n f ≡ true → (y : ℕ) → y < n → f y ≡ true
 all_below_at zero f e y l = absurd (omega arith)
 all_below_at (suc n) f e y l =

@@ -39,13 +39,6 @@ pub count_more : (n i : ℕ) (p : ℕ → Bool) → i < n → p i ≡ false → 
 count_more n i p l e =
     omega (arith, ap bit e, ap bit (upd_same p i true), sum_one n i (λ x. bit (p x)) (λ x. bit (upd p i true x)) l (λ x ne. ap bit (upd_other p i true x ne)))
 
-count_more2 : (n i : ℕ) (p : ℕ → Bool) → i < n → p i ≡ false → count n (upd p i true) ≡ count n p + 1
-count_more2 n i p l e =
-    let h = sum_one n i (λ x. bit (p x)) (λ x. bit (upd p i true x)) l (λ x ne. ap bit (upd_other p i true x ne)) in grind (arith, nat_tests)
-
-count_more3 : (n i : ℕ) (p : ℕ → Bool) → i < n → p i ≡ false → count n (upd p i true) ≡ count n p + 1
-count_more3 n i p l e = grind (arith, nat_tests, sum_one n i (λ x. bit (p x)) (λ x. bit (upd p i true x)) l (λ x ne. grind (arith, nat_tests)))
-
 -- two numbers that are not counted leave room for two
 pub count_room : (n i j : ℕ) (p : ℕ → Bool) → i < n → j < n → (i ≡ j → ⊥) → p i ≡ false → p j ≡ false → count n p + 2 ≤ n
 count_room n i j p l k ne e d = omega (arith, count_more n i p l e, count_more n j (upd p i true) k (upd_other p i true j (λ q. ne (sym q)) ∙ d), count_le n (upd (upd p i true) j true))

@@ -59,15 +59,3 @@ no_cycle fix ne e top c = ne (sym (reach_fixed fix (round e c (here refl) top)))
 pub walk : {f : ℕ → ℕ} {b x : ℕ} (P : ℕ → Type 0) → ((y : ℕ) → P y → P (f y)) → Reach f b x → P x → P b
 walk P h (here e) p = rw e at p
 walk P h (step {x} e r) p = walk P h r (rw e at (h x p))
-
--- a request that is passed on never comes back to its asker
-pub never_back : {f : ℕ → ℕ} {a u r : ℕ} → f r ≡ r → (a ≡ r → ⊥) → f a ≡ u → Reach f r a → f u ≡ a → ⊥
-never_back fix ne e top q = no_cycle fix ne e top (step q (here refl))
-
--- and the board that passed it on is below the asker from then on
-pub now_below : {f g : ℕ → ℕ} {a u v : ℕ} → Turned f g a u v → Reach g a u
-now_below t = step t.u_now (here refl)
-
-pub reach_trans : {f : ℕ → ℕ} {b c x : ℕ} → Reach f b x → Reach f c b → Reach f c x
-reach_trans {f} {b} {c} (here e) s = rw (sym e) at s
-reach_trans (step e r) s = step e (reach_trans r s)

@@ -9,7 +9,7 @@ use Rattle.memory.proofs.model.Page.{Mark, unmarked, deferred, acked, home, aski
 use Rattle.memory.proofs.model.Invariant.{Holders, Core, Inv}
 use Rattle.memory.proofs.model.Sums.{sum_to, count}
 use Rattle.memory.proofs.model.Steps.{stored_at, Serves, passes, copies_it, grants, Serving, empty, one, Call, ask_load, ask_store, clear, Move, joins, served, grant_in, defers, drops, acks, Loaded, copy_in, copy_then_drop, Stores, grant_free, last_ack, Answer, Delivery, moves, loads, stores}
-use Rattle.memory.proofs.model.Weights.{heft, weight, left, Falls, Opens}
+use Rattle.memory.proofs.model.Weights.{heft, weight, Falls, Opens}
 use Rattle.memory.proofs.kept.Summed.{upd_same, upd_other, sum_one, sum_le, count_le, count_more, count_room}
 use Rattle.memory.proofs.kept.Serve.{asker_in, owner}
 use Rattle.memory.proofs.kept.Moves.{no_access, own}
@@ -152,6 +152,3 @@ module _ {W : Type 0} where
         let room = count_room_one n a (has (p.entry a).copies) l lacks in
         let k = heft_marks n (p.entry a).copies in
         record { who = a; was = e; now = grind (arith, facts); others = λ x. grind (arith, facts) }
-
-pub falls_sum : {W : Type 0} {n : ℕ} {p q : Page W} → Falls n p q → left n q < left n p
-falls_sum {n = n} {p = p} {q = q} f = sum_less n f.who (λ x. weight n (p.journey x)) (λ x. weight n (q.journey x)) f.never f.who_in f.lighter

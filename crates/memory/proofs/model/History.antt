@@ -20,11 +20,6 @@ pub data Said (W : Type 0) : Type 0 where
   answered : Maybe W → Said W
   finished : (board : ℕ) → Maybe W → (hops : ℕ) → Said W
 
-pub record Event (W : Type 0) : Type 0 where
-  pub call : Order W
-  pub said : Said W
-  pub posted : List (Mail W)
-
 -- what a history says: the memory, the open accesses and how often their requests were passed on
 pub record Ledger (W : Type 0) : Type 0 where
   pub memory : ℕ → W

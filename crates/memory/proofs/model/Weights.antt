@@ -32,9 +32,6 @@ module _ {W : Type 0} where
   weight n (granted s h c w) = 1 + 2 * count n (has c)
   weight n (clearing h m) = sum_to n (λ x. heft (m x))
 
-  abbrev pub left : ℕ → Page W → ℕ
-  left n p = sum_to n (λ x. weight n (p.journey x))
-
   -- a journey with no message on the link
   abbrev pub silent : ℕ → Journey W → Bool
   silent n home = true
