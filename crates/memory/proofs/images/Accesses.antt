@@ -30,7 +30,7 @@ use Rattle.memory.specs.Calls.{Running}
 use Rattle.memory.specs.Histories.{Access}
 use Rattle.memory.specs.Kits.{Kit, state_at, table_of, board_at}
 use Rattle.memory.specs.Ledgers as specs
-use Rattle.memory.proofs.kept.Summed.{upd_same, upd_other}
+use Rattle.memory.proofs.kept.Sums.{upd_same, upd_other}
 use Rattle.memory.proofs.model.Board as model
 use Rattle.memory.proofs.model.History as history
 use Rattle.memory.proofs.model.Kit as kit

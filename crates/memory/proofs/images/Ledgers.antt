@@ -15,7 +15,7 @@ use Rattle.memory.specs.Histories.{Access}
 use Rattle.memory.specs.Kits.{Kit, state_at}
 use Rattle.memory.specs.Ledgers as specs
 use Rattle.memory.specs.Placements.{Words, with_put}
-use Rattle.memory.proofs.kept.Summed.{upd_same, upd_other}
+use Rattle.memory.proofs.kept.Sums.{upd_same, upd_other}
 use Rattle.memory.proofs.model.Board.{Mail}
 use Rattle.memory.proofs.model.History.{Ledger}
 use Rattle.memory.proofs.model.Kit.{Post, requests, asks_of}

@@ -15,7 +15,7 @@ use Rattle.memory.specs.Kits.{Kit, state_at, table_of, board_at}
 use Rattle.memory.proofs.model.Board.{Mail, Entry}
 use Rattle.memory.proofs.model.Kit as model
 use Rattle.memory.proofs.model.Sums.{upd}
-use Rattle.memory.proofs.kept.Summed.{upd_same, upd_other}
+use Rattle.memory.proofs.kept.Sums.{upd_same, upd_other}
 use Rattle.memory.proofs.images.Bags.{post_all_is, map_beside}
 use Rattle.memory.proofs.images.Fitting.{AllFit, posts_fit}
 use Rattle.memory.proofs.images.Images.{W, entry_image, post_image, map_bag, SeatIs}

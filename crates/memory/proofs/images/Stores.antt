@@ -21,7 +21,7 @@ use Rattle.memory.specs.Ledgers as specs
 use Rattle.memory.specs.declared.answer.Answer.TheVariants.{Accessed}
 use Rattle.memory.specs.declared.call.Call.TheVariants.{Store}
 use Rattle.memory.proofs.kept.Histories.{left_of}
-use Rattle.memory.proofs.kept.Memory.{does_kept}
+use Rattle.memory.proofs.kept.Memory.{does_kept, invalidates_ask}
 use Rattle.memory.proofs.kept.Same.{same_law}
 use Rattle.memory.proofs.model.Board as model
 use Rattle.memory.proofs.model.History as history
@@ -29,23 +29,19 @@ use Rattle.memory.proofs.model.Kit as kit
 use Rattle.memory.proofs.model.Page.{is_none}
 use Rattle.memory.proofs.images.Accesses as at
 use Rattle.memory.proofs.images.Follows.{Follows, GoesOn}
-use Rattle.memory.proofs.images.Images.{W, access_image, entry_image, request_image}
-use Rattle.memory.proofs.images.Ledgers.{Counts}
+use Rattle.memory.proofs.images.Images.{W, access_image, entry_image, request_image, put_word, post_image}
+use Rattle.memory.proofs.images.Ledgers.{Counts, put_agrees, pending_step}
 use Rattle.memory.proofs.images.OpenAccesses.{pending_of, not_asked}
-use Rattle.memory.proofs.images.Tables.{kit_after}
+use Rattle.memory.proofs.images.Tables.{kit_after, state_here, state_there}
 use Rattle.std.proofs.lemmas.Bool.{cases_eq, and_parts, eqb-true, eqb-false, true≢false}
 use Rattle.wire.specs.BoardSets as sets
 use Rattle.wire.specs.declared.board_set.BoardSet.{BoardSet}
 use Rattle.board.specs.Serving.{owns}
 use Rattle.lone.specs.Forms.{reads, writes}
 use Rattle.lone.proofs.EntryForms.{EntryTold, owner_rest, writer_told}
-use Rattle.memory.proofs.kept.Memory.{invalidates_ask}
 use Rattle.memory.proofs.model.Board.{write}
 use Rattle.memory.proofs.model.Sets.{has}
-use Rattle.memory.proofs.images.Images.{put_word, post_image}
-use Rattle.memory.proofs.images.Ledgers.{put_agrees, pending_step}
 use Rattle.memory.proofs.images.Sets.{has_is, nobody_is, empty_is, invalidates_are, on_page}
-use Rattle.memory.proofs.images.Tables.{state_here, state_there}
 
 -- a set without members
 emptied : (c : BoardSet) → length c.members ≡ 16 → sets.is_empty c ≡ true → c.members ≡ replicate 16 false

@@ -8,13 +8,12 @@ use Rattle.memory.proofs.model.Board.{Kind, load, store, Req, Entry, Mail, reque
 use Rattle.memory.proofs.model.Page.{Journey, home, asking, queued, copied, granted, Page, busy, far, queued_at, mark_of, mark, At, occ}
 use Rattle.memory.proofs.model.Steps.{passed_on, copied_to, granted_to, Serves, passes, copies_it, grants, Serving, empty, one}
 use Rattle.memory.proofs.model.Invariant.{Core}
-use Rattle.memory.proofs.model.Kit.{Maybe, absent, just, mail_of, is_it, stage_of, deferral_of, flies, requests}
-use Rattle.memory.proofs.model.Kit.{Equality}
+use Rattle.memory.proofs.model.Kit.{Maybe, absent, just, mail_of, is_it, stage_of, deferral_of, flies, requests, Equality}
 use Rattle.memory.proofs.kept.Cells.{listed}
 use Rattle.memory.proofs.kept.Serve.{owner as owner_root}
 use Rattle.memory.proofs.kept.Lists.{serves_one, popped, others_told}
 use Rattle.memory.proofs.kept.Sims.{replace}
-use Rattle.memory.proofs.kept.Summed.{upd_same}
+use Rattle.memory.proofs.kept.Sums.{upd_same}
 
 -- what serving at u changes: u's entry and the messages; the stages, the marks and the deferrals stay
 pub record Changes {W : Type 0} (same : Mail W → Mail W → Bool) (p q : Page W) (u : ℕ) (e : Entry W) (old : Maybe (Mail W)) (ms : List (Mail W)) : Type 0 where

@@ -5,8 +5,7 @@ use Rattle.memory.proofs.model.Sums.{upd, bit}
 use Rattle.memory.proofs.model.Board.{Kind, Mail, request, store_entry}
 use Rattle.memory.proofs.model.Page.{deferred, home, asking, clearing, Page, busy, loading, mark, marks}
 use Rattle.memory.proofs.model.Steps.{goes, stored_at}
-use Rattle.memory.proofs.model.Kit.{absent, just, closed, asked, clears, Kit, invalidates, slot, deferral_of, flies, times, Told, post_all, becomes, opened_seat}
-use Rattle.memory.proofs.model.Kit.{Equality}
+use Rattle.memory.proofs.model.Kit.{absent, just, closed, asked, clears, Kit, invalidates, slot, deferral_of, flies, times, Told, post_all, becomes, opened_seat, Equality}
 use Rattle.memory.proofs.kept.Cells.{listed, times_post, invalidates_listed}
 use Rattle.memory.proofs.kept.Sims.{replace}
 

@@ -4,14 +4,12 @@ use Rattle.memory.proofs.kept.Sets.{facts}
 use Rattle.memory.proofs.model.Sums.{upd}
 use Rattle.memory.proofs.model.Board.{Kind, Entry, Mail, request}
 use Rattle.memory.proofs.model.Page.{deferred, Journey, home, Page, busy, far, loading, mark}
-use Rattle.memory.proofs.model.Steps.{goes, Call}
+use Rattle.memory.proofs.model.Steps.{goes, Call, opens}
 use Rattle.memory.proofs.model.Invariant.{Inv}
-use Rattle.memory.proofs.model.Kit.{Maybe, just, Stage, closed, Board, Kit, Told, becomes, opened_seat, requests, Open, op_by, op_of}
-use Rattle.memory.proofs.model.Kit.{Equality}
-use Rattle.memory.proofs.model.Steps.{opens}
+use Rattle.memory.proofs.model.Kit.{Maybe, just, Stage, closed, Board, Kit, Told, becomes, opened_seat, requests, Open, op_by, op_of, Equality}
 use Rattle.memory.proofs.model.Weights.{weight}
 use Rattle.memory.proofs.model.History.{Ledger, more_passed, opening}
-use Rattle.memory.proofs.kept.Summed.{upd_same, upd_other, upd_both}
+use Rattle.memory.proofs.kept.Sums.{upd_same, upd_other, upd_both}
 use Rattle.memory.proofs.kept.Steps.{step_kept}
 use Rattle.memory.proofs.kept.Weights.{call_opens}
 use Rattle.memory.proofs.kept.Called.{idle}

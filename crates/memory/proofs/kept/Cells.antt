@@ -6,8 +6,7 @@ use Rattle.memory.proofs.model.Sums.{bit}
 use Rattle.memory.proofs.model.Board.{Mail, invalidate}
 use Rattle.memory.proofs.model.Page.{Journey, home, asking, queued, copied, granted, clearing, marks}
 use Rattle.wire.specs.Bags.{Bag, ◌&◌}
-use Rattle.memory.proofs.model.Kit.{Equality}
-use Rattle.memory.proofs.model.Kit.{Maybe, absent, just, Post, owner, slot, mark_mail, mail_of, is_it, flies, times, post_all, invalidates}
+use Rattle.memory.proofs.model.Kit.{Equality, Maybe, absent, just, Post, owner, slot, mark_mail, mail_of, is_it, flies, times, post_all, invalidates}
 
 abbrev pub Keyed : {W : Type 0} → Maybe (Mail W) → ℕ → ℕ → Type 0
 Keyed absent o s = Unit {0}

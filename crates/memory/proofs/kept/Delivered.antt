@@ -1,3 +1,4 @@
+use Rattle.memory.proofs.kept.Below.{none_true, none_false}
 use Rattle.std.proofs.Common.{◌≡◌, ℕ, zero, suc, ◌+◌, ◌<◌, Bool, true, false, cond, ◌⊎◌, List, [], ◌∷◌, ◌++◌, sym, refl, ap, ◌∙◌, inl, inr, arith}
 use Rattle.std.proofs.lemmas.Bool.{cases_eq, cases_Bool, both_ways}
 use Rattle.memory.proofs.model.Sets.{has, Boards, nobody}
@@ -8,10 +9,9 @@ use Rattle.memory.proofs.model.Page.{Mark, unmarked, sent, deferred, acked, Jour
 use Rattle.memory.proofs.model.Steps.{goes, copy_came, copy_dropped, stored_at, grant_came, dropped, served, grant_in, defers, drops, acks, Loaded, copy_in, copy_then_drop, Stores, grant_free, last_ack, nothing, read_at, written_at, moves, loads, stores}
 use Rattle.memory.proofs.model.Invariant.{Holders, Inv}
 use Rattle.wire.specs.Bags.{Bag, ◌&◌}
-use Rattle.memory.proofs.model.Kit.{Maybe, absent, just, Stage, closed, asked, clears, Post, Kit, refused, replies, none_below, invalidates, vacant, with_deferral, with_awaited, finish, finish_load, asked_load, arrive, to, slot, mail_of, is_it, stage_of, deferral_of, flies, Told, becomes, arrives, requests}
-use Rattle.memory.proofs.model.Kit.{Equality}
+use Rattle.memory.proofs.model.Kit.{Maybe, absent, just, Stage, closed, asked, clears, Post, Kit, refused, replies, none_below, invalidates, vacant, with_deferral, with_awaited, finish, finish_load, asked_load, arrive, to, slot, mail_of, is_it, stage_of, deferral_of, flies, Told, becomes, arrives, requests, Equality}
 use Rattle.memory.proofs.kept.Cells.{listed, taken_flies, not_owner, not_slot, invalidates_listed}
-use Rattle.memory.proofs.kept.Summed.{upd_same}
+use Rattle.memory.proofs.kept.Sums.{upd_same}
 use Rattle.memory.proofs.kept.Steps.{loaded_core, ready_core, stores_ready, in_clearing}
 use Rattle.memory.proofs.kept.Sims.{Sim, replace, mails_after, join_sim}
 use Rattle.memory.proofs.kept.Answered.{Changes, changes_calm, serve_told, serve_list_told}
@@ -129,21 +129,6 @@ module _ {W : Type 0} (same : Mail W → Mail W → Bool) (law : Equality same) 
               (λ z. omega (arith, replace same law P.journey (upd P.journey c (clearing h (upd m x acked))) c x (just (invalidate c x)) (just (acknowledge x c)) (grind (arith, facts)) (grind (arith, facts)) (λ b y ne. grind (arith, facts)) z));
         };
       }
-
-  -- an acknowledgement, with more to come
-  none_true : (n : ℕ) (c : ℕ → Bool) → none_below n c ≡ true → (y : ℕ) → y < n → c y ≡ false
-  none_true zero c e y l = absurd (omega arith)
-  none_true (suc n) c e y l = elim (cases_Bool (c n)) [
-    | inl h ↦ absurd (grind arith)
-    | inr h ↦ elim (cases_eq y n) [ inl q ↦ ap c q ∙ h | inr q ↦ none_true n c (grind arith) y (omega arith) ]
-  ]
-
-  none_false : (n : ℕ) (c : ℕ → Bool) → none_below n c ≡ false → (y : ℕ) × (y < n) × (c y ≡ true)
-  none_false zero c e = absurd (both_ways true e refl)
-  none_false (suc n) c e = elim (cases_Bool (c n)) [
-    | inl h ↦ (n, omega arith, h)
-    | inr h ↦ let k = none_false n c (grind arith) in (k.0, omega (arith, k.1), k.2)
-  ]
 
   ack_sim : (c x h : ℕ) (m : ℕ → Mark) → Takes (acknowledge x c) → P.journey c ≡ clearing h m → m x ≡ acked → none_below n (upd (k.board c).seat.awaited x false) ≡ false → Sim same n k pages p (acknowledge x c) rest
   ack_sim c x h m e at is more =

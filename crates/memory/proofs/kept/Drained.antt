@@ -1,29 +1,18 @@
+use Rattle.memory.proofs.kept.Sums.{sum_part, sum_times, sum_le}
 use Rattle.std.proofs.Common.{◌≡◌, ℕ, zero, suc, ◌+◌, ◌-◌, ◌*◌, ◌<◌, ◌≤◌, Bool, true, sym, refl, ap, ◌∙◌, inl, inr, arith}
 use Rattle.std.proofs.lemmas.Bool.{cases_eq, both_ways}
 use Rattle.memory.proofs.kept.Sets.{facts}
-use Rattle.memory.proofs.model.Sums.{bit}
+use Rattle.memory.proofs.model.Sums.{bit, sum_to}
 use Rattle.memory.proofs.model.Board.{Mail}
 use Rattle.memory.proofs.model.Page.{Mark, Journey, home, asking, queued, copied, granted, clearing, Page, awaits, busy, far, rooted, is_clearing, mark_of, mark}
 use Rattle.memory.proofs.model.Invariant.{Inv}
 use Rattle.wire.specs.Bags.{Bag, ◌&◌}
-use Rattle.memory.proofs.model.Kit.{absent, Stage, closed, Seat, Post, Kit, open_on, owner, slot, mail_of, stage_of, op_by}
-use Rattle.memory.proofs.model.Kit.{Equality}
+use Rattle.memory.proofs.model.Kit.{absent, Stage, closed, Seat, Post, Kit, open_on, owner, slot, mail_of, stage_of, op_by, Equality}
 use Rattle.memory.proofs.kept.Cells.{taken_flies}
-use Rattle.memory.proofs.model.Weights.{weight}
+use Rattle.memory.proofs.model.Weights.{weight, heft}
 use Rattle.memory.proofs.model.History.{Ledger, is_open, opens_count}
-use Rattle.memory.proofs.model.Weights.{heft}
-use Rattle.memory.proofs.model.Sums.{sum_to}
 use Rattle.memory.proofs.kept.Histories.{Kept, left_of}
 use Rattle.memory.proofs.kept.Memory.{not_closed_busy, open_here, stage_cases}
-use Rattle.memory.proofs.kept.Summed.{sum_le}
-
-pub sum_part : (n i : ℕ) (f : ℕ → ℕ) → i < n → f i ≤ sum_to n f
-sum_part zero i f l = omega arith
-sum_part (suc n) i f l = elim (cases_eq n i) [ inl e ↦ omega (arith, ap f e) | inr e ↦ omega (arith, sum_part n i f (omega arith)) ]
-
-sum_times : (n c : ℕ) (f : ℕ → ℕ) → sum_to n (λ x. c * f x) ≡ c * sum_to n f
-sum_times zero c f = omega arith
-sum_times (suc n) c f = omega (arith, sum_times n c f)
 
 -- an open access weighs something
 clearing_heavy : (n y : ℕ) (m : ℕ → Mark) → y < n → awaits (m y) ≡ true → 0 < sum_to n (λ x. heft (m x))

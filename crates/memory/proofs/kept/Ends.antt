@@ -1,3 +1,4 @@
+use Rattle.memory.proofs.kept.Below.{all_below_at}
 use Rattle.std.proofs.Common.{◌≡◌, ℕ, zero, suc, ◌<◌, Bool, true, false, ◌⊎◌, List, [], refl, ap, ◌∙◌, inl, inr, arith}
 use Rattle.std.proofs.lemmas.Bool.{cases_eq, cases_Bool}
 use Rattle.memory.proofs.kept.Sets.{facts}
@@ -6,12 +7,6 @@ use Rattle.memory.proofs.model.Page.{deferred, Journey, home, asking, queued, co
 use Rattle.memory.proofs.model.Invariant.{Holders, Inv}
 use Rattle.memory.proofs.model.Weights.{quiet_mark, all_below, silent}
 use Rattle.memory.proofs.kept.Trees.{walk}
-
-all_below_at : (n : ℕ) (f : ℕ → Bool) → all_below n f ≡ true → (y : ℕ) → y < n → f y ≡ true
-all_below_at zero f e y l = absurd (omega arith)
-all_below_at (suc n) f e y l =
-    let both : (f n ≡ true) × (all_below n f ≡ true) = grind arith in
-    elim (cases_eq y n) [ inl q ↦ ap f q ∙ both.0 | inr ne ↦ all_below_at n f both.1 y (omega arith) ]
 
 occ_none : (a : ℕ) (xs : List Req) → xs ≡ [] → occ a xs ≡ 0
 occ_none a xs e = ap (occ a) e

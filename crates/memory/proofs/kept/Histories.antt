@@ -1,21 +1,18 @@
+use Rattle.memory.proofs.kept.Sums.{upd_self_at, sum_less, upd_same, upd_other, upd_both}
 use Rattle.std.proofs.Common.{◌≡◌, ℕ, ◌+◌, ◌-◌, ◌*◌, ◌<◌, ◌≤◌, Bool, true, false, ◌⊎◌, List, sym, refl, ap, ◌∙◌, subst, inl, inr, arith}
 use Rattle.std.proofs.lemmas.Bool.{cases_eq, cases_Bool}
 use Rattle.memory.proofs.kept.Sets.{facts}
-use Rattle.memory.proofs.model.Sums.{upd}
+use Rattle.memory.proofs.model.Sums.{upd, sum_to}
 use Rattle.memory.proofs.model.Board.{load, store, Entry, Mail}
 use Rattle.memory.proofs.model.Page.{Journey, home, asking, queued, copied, granted, clearing, Page, busy, far}
-use Rattle.memory.proofs.model.Steps.{Answer, nothing, read_at, written_at, Delivery}
+use Rattle.memory.proofs.model.Steps.{Answer, nothing, read_at, written_at, Delivery, delivers}
 use Rattle.memory.proofs.model.Invariant.{Inv}
 use Rattle.wire.specs.Bags.{Bag, ◌&◌}
-use Rattle.memory.proofs.model.Kit.{Maybe, absent, just, Stage, closed, asked, clears, Seat, Board, Post, Kit, Reply, open_on, to, stage_of, Told, becomes, arrives, requests, Open, op_load, op_store, op_by, op_of}
-use Rattle.memory.proofs.model.Kit.{Equality}
-use Rattle.memory.proofs.model.Steps.{delivers}
+use Rattle.memory.proofs.model.Kit.{Maybe, absent, just, Stage, closed, asked, clears, Seat, Board, Post, Kit, Reply, open_on, to, stage_of, Told, becomes, arrives, requests, Open, op_load, op_store, op_by, op_of, Equality}
 use Rattle.memory.proofs.model.Weights.{weight, Falls}
 use Rattle.memory.proofs.model.History.{call_deliver, Ledger, stored, after, Good, said_of, said_by, posts_by, kit_by}
-use Rattle.memory.proofs.kept.Summed.{upd_same, upd_other, upd_both}
 use Rattle.memory.proofs.kept.Steps.{step_kept}
-use Rattle.memory.proofs.model.Sums.{sum_to}
-use Rattle.memory.proofs.kept.Weights.{delivery_falls, sum_less}
+use Rattle.memory.proofs.kept.Weights.{delivery_falls}
 use Rattle.memory.proofs.kept.Sims.{Tale}
 use Rattle.memory.proofs.kept.Delivered.{deliver_sim}
 
@@ -129,9 +126,6 @@ page_of_op (clears g) p f r (inr h) = let z = h.1 in cc
 
 op_not_closed : {W : Type 0} (st : Stage) (p : ℕ) (f : W → W) (o : Open W) → op_by st p f ≡ just o → st ≡ closed → ⊥
 op_not_closed st p f o e c = grind arith
-
-upd_self_at : {X : Type 0} (f : ℕ → X) (b : ℕ) (v : X) → v ≡ f b → (x : ℕ) → upd f b v x ≡ f x
-upd_self_at f b v e x = grind (arith, facts)
 
 open_here : {W : Type 0} (s : Seat W) (p : ℕ) → s.page ≡ p → open_on s p ≡ s.stage
 open_here s p e = grind (arith, facts)

@@ -3,7 +3,7 @@ use Rattle.std.proofs.lemmas.Bool.{cases_eq, cases_Bool, both_ways}
 use Rattle.std.proofs.lemmas.Bool.Decides.{nat_tests}
 use Rattle.memory.proofs.model.Sums.{upd}
 use Rattle.memory.proofs.model.Tree.{Reach, here, step, Turned, State, Trail, Asker, Inv, opened, passed_on, granted, closed, first}
-use Rattle.memory.proofs.kept.Summed.{upd_other, upd_both, count_more, count_room, count_none}
+use Rattle.memory.proofs.kept.Sums.{upd_other, upd_both, count_more, count_room, count_none}
 use Rattle.memory.proofs.kept.Trees.{reach_fixed, keeps, keeps_root, comes, no_cycle}
 
 pub turned : (f : ℕ → ℕ) (a u v : ℕ) → f a ≡ u → (u ≡ a → ⊥) → Turned f (upd (upd f a v) u a) a u v

@@ -7,7 +7,7 @@ use Rattle.memory.proofs.model.Board.{load, store, Req}
 use Rattle.memory.proofs.model.Page.{home, queued, Page, busy, queued_at, occ}
 use Rattle.memory.proofs.model.Invariant.{Core, Inv}
 use Rattle.memory.proofs.model.Steps.{Serves, passes, copies_it, grants, Serving, empty, one}
-use Rattle.memory.proofs.kept.Summed.{upd_both}
+use Rattle.memory.proofs.kept.Sums.{upd_both}
 use Rattle.memory.proofs.kept.Serve.{passes_core, copies_core, grants_core}
 
 -- what one served request leaves as it was

@@ -1,3 +1,5 @@
+use Rattle.memory.proofs.kept.Below.{none_true, none_false, all_below_all}
+use Rattle.memory.proofs.kept.Sums.{sum_zero, upd_self_at, upd_same, upd_other, upd_both}
 use Rattle.std.proofs.Common.{◌≡◌, ℕ, zero, suc, ◌+◌, ◌<◌, Bool, true, false, cond, ◌⊎◌, List, [], ◌∷◌, ◌++◌, sym, refl, ap, ◌∙◌, subst, inl, inr, arith}
 use Rattle.std.proofs.lemmas.Bool.{cases_eq, cases_Bool, both_ways}
 use Rattle.memory.proofs.model.Sets.{has, Boards}
@@ -5,13 +7,10 @@ use Rattle.memory.proofs.kept.Sets.{facts}
 use Rattle.memory.proofs.model.Sums.{upd, bit, sum_to}
 use Rattle.memory.proofs.model.Board.{write, load, store, Entry, Mail, request, copy, grant, invalidate, acknowledge, store_entry}
 use Rattle.memory.proofs.model.Page.{Mark, unmarked, sent, deferred, acked, Journey, home, asking, queued, copied, granted, clearing, Page, is_none, busy, far, cover, holder, marks}
-use Rattle.memory.proofs.model.Steps.{goes, stored_at, ask_load, ask_store, clear}
-use Rattle.memory.proofs.model.Kit.{absent, Stage, closed, asked, clears, Seat, Board, Kit, none_below, invalidates, open_on, stage_of, flies, times, Told, becomes, opened_seat, requests, op_load, op_store, op_by, op_of}
-use Rattle.memory.proofs.model.Kit.{Equality}
+use Rattle.memory.proofs.model.Steps.{goes, stored_at, ask_load, ask_store, clear, MayStore, store_now}
+use Rattle.memory.proofs.model.Kit.{absent, Stage, closed, asked, clears, Seat, Board, Kit, none_below, invalidates, open_on, stage_of, flies, times, Told, becomes, opened_seat, requests, op_load, op_store, op_by, op_of, Equality}
 use Rattle.wire.specs.Bags.{empty as no_mail}
-use Rattle.memory.proofs.model.Steps.{MayStore, store_now}
 use Rattle.memory.proofs.model.History.{Order, Said, Ledger, unchanged, after, Good, Does, loads_now, loads_later, stores_now, stores_clearing, stores_later, delivers_it, delivers_none, first_ledger, first_kit}
-use Rattle.memory.proofs.kept.Summed.{upd_same, upd_other, upd_both}
 use Rattle.memory.proofs.kept.Steps.{step_kept, start_inv}
 use Rattle.memory.proofs.kept.Called.{ask_told, clear_told, now_told}
 use Rattle.memory.proofs.model.Weights.{silent, quiet_mark, all_below, start as first_page}
@@ -19,24 +18,6 @@ use Rattle.memory.proofs.kept.Moves.{own}
 use Rattle.memory.proofs.kept.Ends.{stuck}
 use Rattle.memory.proofs.kept.Histories.{Kept, left_of, delivered}
 use Rattle.memory.proofs.kept.Calls.{free_is, undeferred, home_is, entry_is, opened_kept, requests_self}
-
-none_true : (n : ℕ) (c : ℕ → Bool) → none_below n c ≡ true → (y : ℕ) → y < n → c y ≡ false
-none_true zero c e y l = absurd (omega arith)
-none_true (suc n) c e y l = elim (cases_Bool (c n)) [
-  | inl h ↦ absurd (grind arith)
-  | inr h ↦ elim (cases_eq y n) [ inl q ↦ ap c q ∙ h | inr q ↦ none_true n c (grind arith) y (omega arith) ]
-]
-
-none_false : (n : ℕ) (c : ℕ → Bool) → none_below n c ≡ false → (y : ℕ) × (y < n) × (c y ≡ true)
-none_false zero c e = absurd (both_ways true e refl)
-none_false (suc n) c e = elim (cases_Bool (c n)) [
-  | inl h ↦ (n, omega arith, h)
-  | inr h ↦ let k = none_false n c (grind arith) in (k.0, omega (arith, k.1), k.2)
-]
-
-all_below_all : (n : ℕ) (f : ℕ → Bool) → ((y : ℕ) → y < n → f y ≡ true) → all_below n f ≡ true
-all_below_all zero f h = refl
-all_below_all (suc n) f h = let a = h n (omega arith) in let b = all_below_all n f (λ y l. h y (omega arith)) in grind arith
 
 requests_app : {W : Type 0} (x : ℕ) (xs ys : List (Mail W)) → requests x (xs ++ ys) ≡ requests x xs + requests x ys
 requests_app x [] ys = omega arith
@@ -68,9 +49,6 @@ module _ {W : Type 0} (same : Mail W → Mail W → Bool) (law : Equality same) 
 -- an event that changes nothing
 pub nothing_new : {W : Type 0} {same : Mail W → Mail W → Bool} {n : ℕ} {l : Ledger W} {k : Kit W} → Kept same n l k → Kept same n (unchanged l []) k
 nothing_new {l = l} i = record { pages = i.pages; told = i.told; each = i.each; opens = i.opens; passed = λ x on. omega (arith, i.passed x on); light = i.light; bound = λ x. omega (arith, i.bound x) }
-
-upd_self_at : {X : Type 0} (f : ℕ → X) (b : ℕ) (v : X) → v ≡ f b → (x : ℕ) → upd f b v x ≡ f x
-upd_self_at f b v e x = grind (arith, facts)
 
 pub stage_cases : (s : Stage) → (s ≡ closed) ⊎ (s ≡ closed → ⊥)
 stage_cases closed = inl refl
@@ -208,11 +186,7 @@ start_kept same n idle v l = record {
   bound = λ x. omega arith;
 }
 
-sum_none : (m : ℕ) → sum_to m (λ x. 0) ≡ 0
-sum_none zero = refl
-sum_none (suc m) = omega (arith, sum_none m)
-
 -- and nothing is left to do
 pub start_left : {W : Type 0} (same : Mail W → Mail W → Bool) (n : ℕ) (idle : W) (v : ℕ → W) (l : 0 < n) → left_of (start_kept same n idle v l) ≡ 0
 unfolding start_kept
-start_left same n idle v l = sum_none n
+start_left same n idle v l = sum_zero n (λ x. 0) (λ x. refl)

@@ -8,7 +8,7 @@ use Rattle.memory.proofs.model.Board.{none, Kind, load, Req}
 use Rattle.memory.proofs.model.Page.{Mark, unmarked, sent, deferred, acked, Journey, home, asking, queued, copied, granted, clearing, Page, awaits, busy, place, rooted, loading, is_queued, mark, holder, view, occ, marks}
 use Rattle.memory.proofs.model.Invariant.{Core}
 use Rattle.std.proofs.ByRecursion.{All-push}
-use Rattle.memory.proofs.kept.Summed.{upd_same, upd_both}
+use Rattle.memory.proofs.kept.Sums.{upd_same, upd_both}
 use Rattle.memory.proofs.kept.Others.{others_stay}
 use Rattle.memory.proofs.kept.Trees.{reach_fixed}
 use Rattle.memory.proofs.kept.Kept.{open_kept, close_kept}

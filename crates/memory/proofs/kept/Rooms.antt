@@ -1,17 +1,14 @@
+use Rattle.memory.proofs.kept.Sums.{sum_each, sum_zero, count_room_one}
 use Rattle.std.proofs.Common.{◌≡◌, ℕ, zero, suc, ◌+◌, ◌-◌, ◌*◌, ◌<◌, ◌≤◌, Bool, true, false, ◌&&◌, eqb, sym, refl, ap, ◌∙◌, inl, inr, arith}
 use Rattle.std.proofs.lemmas.Bool.{cases_eq, cases_Bool}
 use Rattle.memory.proofs.kept.Sets.{facts}
-use Rattle.memory.proofs.model.Sums.{bit}
+use Rattle.memory.proofs.model.Sums.{bit, sum_to, count}
 use Rattle.memory.proofs.model.Board.{Mail}
 use Rattle.memory.proofs.model.Page.{Mark, Journey, home, asking, queued, copied, granted, clearing, Page, awaits, busy, rooted, mark_of, mark}
 use Rattle.memory.proofs.model.Invariant.{Inv}
-use Rattle.wire.specs.Bags.{total}
-use Rattle.memory.proofs.model.Kit.{Maybe, absent, just, closed, Seat, Post, Kit, open_on, owner, slot, mark_mail, mail_of, is_it, stage_of}
-use Rattle.memory.proofs.model.Kit.{Equality}
+use Rattle.wire.specs.Bags.{total, size}
+use Rattle.memory.proofs.model.Kit.{Maybe, absent, just, closed, Seat, Post, Kit, open_on, owner, slot, mark_mail, mail_of, is_it, stage_of, Equality}
 use Rattle.memory.proofs.model.History.{Ledger}
-use Rattle.memory.proofs.model.Sums.{sum_to, count}
-use Rattle.wire.specs.Bags.{size}
-use Rattle.memory.proofs.kept.Weights.{count_room_one}
 use Rattle.memory.proofs.kept.Sizes.{some, is_in, fits}
 use Rattle.memory.proofs.kept.Histories.{Kept}
 
@@ -32,10 +29,6 @@ post_is same law x y e =
 
 post_self : {W : Type 0} (same : Mail W → Mail W → Bool) → Equality same → (x : Post W) → same_post same x x ≡ true
 post_self same law x = let s = law.self x.mail in grind (arith, facts)
-
-sum_each : (n c : ℕ) (f : ℕ → ℕ) → ((x : ℕ) → f x ≤ c) → sum_to n f ≤ n * c
-sum_each zero c f h = omega arith
-sum_each (suc n) c f h = omega (arith, h n, sum_each n c f h)
 
 at_it : {W : Type 0} (same : Mail W → Mail W → Bool) (p r : ℕ) (x : Mail W) (c : Maybe (Mail W)) → p ≡ r → is_it same x c ≡ is_in (same_post same) (record { page = p; mail = x }) (posted_on r c)
 at_it same p r x absent e = refl
@@ -118,10 +111,6 @@ module _ {W : Type 0} {same : Mail W → Mail W → Bool} {n : ℕ} {l : Ledger 
     | inr b ↦ omega (arith, sum_zero n (λ s. bit (some (cell a s))) (λ s. still_none ((i.pages (at a)).journey a) s b))
   ]
     where
-      sum_zero : (n : ℕ) (f : ℕ → ℕ) → ((s : ℕ) → f s ≡ 0) → sum_to n f ≡ 0
-      sum_zero zero f h = refl
-      sum_zero (suc n) f h = omega (arith, h n, sum_zero n f h)
-
       still_none : (j : Journey W) (s : ℕ) → busy j ≡ false → bit (some (posted_on (at a) (mail_of a j s))) ≡ 0
       still_none j s b = grind arith
 

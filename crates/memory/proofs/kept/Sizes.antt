@@ -7,7 +7,7 @@ use Rattle.std.proofs.lemmas.Bool.Decides.{nat_tests}
 use Rattle.memory.proofs.model.Sums.{upd, sum_to, bit}
 use Rattle.wire.specs.Bags.{Bag, empty, ◌&◌, either_order, total, size}
 use Rattle.memory.proofs.model.Kit.{Maybe, absent, just}
-use Rattle.memory.proofs.kept.Summed.{upd_same, upd_other, sum_one}
+use Rattle.memory.proofs.kept.Sums.{upd_same, upd_other, sum_one}
 
 abbrev pub some : {X : Type 0} → Maybe X → Bool
 some absent = false

@@ -1,27 +1,19 @@
+use Rattle.memory.proofs.kept.Sums.{sum_less, count_room_one, upd_same, upd_other, sum_one, sum_le, count_le, count_more, count_room}
 use Rattle.std.proofs.Common.{◌≡◌, ℕ, zero, suc, ◌+◌, ◌*◌, ◌<◌, ◌≤◌, Bool, true, false, List, refl, ap, inl, inr, arith}
 use Rattle.std.proofs.lemmas.Bool.{cases_eq, cases_Bool}
 use Rattle.memory.proofs.model.Sets.{has, put, Boards}
 use Rattle.memory.proofs.kept.Sets.{facts}
-use Rattle.memory.proofs.model.Sums.{upd, bit}
+use Rattle.memory.proofs.model.Sums.{upd, bit, sum_to, count}
 use Rattle.std.specs.List.{AllByRecursion as All}
 use Rattle.memory.proofs.model.Board.{Kind, load, store, Req}
 use Rattle.memory.proofs.model.Page.{Mark, unmarked, deferred, acked, home, asking, queued, clearing, Page, awaits, busy, far, rooted, queued_at, At, occ, marks}
 use Rattle.memory.proofs.model.Invariant.{Holders, Core, Inv}
-use Rattle.memory.proofs.model.Sums.{sum_to, count}
 use Rattle.memory.proofs.model.Steps.{stored_at, Serves, passes, copies_it, grants, Serving, empty, one, Call, ask_load, ask_store, clear, Move, joins, served, grant_in, defers, drops, acks, Loaded, copy_in, copy_then_drop, Stores, grant_free, last_ack, Answer, Delivery, moves, loads, stores}
 use Rattle.memory.proofs.model.Weights.{heft, weight, Falls, Opens}
-use Rattle.memory.proofs.kept.Summed.{upd_same, upd_other, sum_one, sum_le, count_le, count_more, count_room}
 use Rattle.memory.proofs.kept.Serve.{asker_in, owner}
 use Rattle.memory.proofs.kept.Moves.{no_access, own}
 use Rattle.memory.proofs.kept.Lists.{serves_one, popped, others_told}
 use Rattle.memory.proofs.kept.Steps.{loaded_core, ready_core, stores_ready}
-
-pub sum_less : (n a : ℕ) (f g : ℕ → ℕ) → ((x : ℕ) → g x ≤ f x) → a < n → g a < f a → sum_to n g < sum_to n f
-sum_less zero a f g h l k = omega arith
-sum_less (suc n) a f g h l k = elim (cases_eq n a) [
-  | inl e ↦ omega (arith, sum_le n g f (λ x _. h x), ap f e, ap g e)
-  | inr e ↦ omega (arith, sum_less n a f g h (omega arith) k, h n)
-]
 
 -- one mark changed
 pub heft_one : (n x : ℕ) (m : ℕ → Mark) (t : Mark) → x < n → sum_to n (λ y. heft (upd m x t y)) + heft (m x) ≡ sum_to n (λ y. heft (m y)) + heft t
@@ -30,9 +22,6 @@ heft_one n x m t l = omega (arith, sum_one n x (λ y. heft (m y)) (λ y. heft (u
 pub heft_marks : (n : ℕ) (c : Boards) → sum_to n (λ y. heft (marks c y)) ≡ 2 * count n (has c)
 heft_marks zero c = refl
 heft_marks (suc n) c = grind (arith, heft_marks n c, cases_Bool (has c n))
-
-pub count_room_one : (n i : ℕ) (c : ℕ → Bool) → i < n → c i ≡ false → count n c + 1 ≤ n
-count_room_one n i c l e = omega (arith, count_more n i c l e, count_le n (upd c i true))
 
 module _ {W : Type 0} where
   pub record Lighter (n : ℕ) (p q : Page W) : Type 0 where

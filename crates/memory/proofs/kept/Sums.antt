@@ -1,6 +1,8 @@
-use Rattle.std.proofs.Common.{◌≡◌, ℕ, zero, suc, ◌+◌, ◌<◌, ◌≤◌, Bool, true, false, eqb, sym, refl, ap, ◌∙◌, inl, inr, arith}
+-- A function changed at one number, and sums and counts over the numbers below n.
+use Rattle.std.proofs.Common.{◌≡◌, ℕ, zero, suc, ◌+◌, ◌*◌, ◌<◌, ◌≤◌, Bool, true, false, eqb, sym, refl, ap, ◌∙◌, inl, inr, arith}
 use Rattle.std.proofs.lemmas.Bool.{cases_eq, cond-true, cond-false, eq-eqb, ne_eqb}
 use Rattle.std.proofs.lemmas.Bool.Decides.{nat_tests}
+use Rattle.memory.proofs.kept.Sets.{facts}
 use Rattle.memory.proofs.model.Sums.{upd, sum_to, bit, count}
 
 pub upd_same : {X : Type 0} (f : ℕ → X) (i : ℕ) (v : X) → upd f i v i ≡ v
@@ -12,6 +14,10 @@ upd_other f i v x ne = cond-false (eqb x i) v (f x) (ne_eqb x i ne)
 -- what holds of each board, after a change at one
 pub upd_both : {X : Type 0} (P : ℕ → X → Type 0) (f : ℕ → X) (i : ℕ) (v : X) (x : ℕ) → P i v → ((x ≡ i → ⊥) → P x (f x)) → P x (upd f i v x)
 upd_both P f i v x this that = elim (cases_eq x i) [ inl p ↦ rw (p, upd_same f i v) this | inr p ↦ rw (upd_other f i v x p) (that p) ]
+
+-- the value that is there already
+pub upd_self_at : {X : Type 0} (f : ℕ → X) (b : ℕ) (v : X) → v ≡ f b → (x : ℕ) → upd f b v x ≡ f x
+upd_self_at f b v e x = grind (arith, facts)
 
 pub sum_same : (n : ℕ) (f g : ℕ → ℕ) → ((x : ℕ) → x < n → g x ≡ f x) → sum_to n g ≡ sum_to n f
 sum_same zero f g h = refl
@@ -30,6 +36,29 @@ pub sum_le : (n : ℕ) (f g : ℕ → ℕ) → ((x : ℕ) → x < n → f x ≤ 
 sum_le zero f g h = omega arith
 sum_le (suc n) f g h = omega (arith, h n (omega arith), sum_le n f g (λ x l. h x (omega arith)))
 
+pub sum_less : (n a : ℕ) (f g : ℕ → ℕ) → ((x : ℕ) → g x ≤ f x) → a < n → g a < f a → sum_to n g < sum_to n f
+sum_less zero a f g h l k = omega arith
+sum_less (suc n) a f g h l k = elim (cases_eq n a) [
+  | inl e ↦ omega (arith, sum_le n g f (λ x _. h x), ap f e, ap g e)
+  | inr e ↦ omega (arith, sum_less n a f g h (omega arith) k, h n)
+]
+
+pub sum_part : (n i : ℕ) (f : ℕ → ℕ) → i < n → f i ≤ sum_to n f
+sum_part zero i f l = omega arith
+sum_part (suc n) i f l = elim (cases_eq n i) [ inl e ↦ omega (arith, ap f e) | inr e ↦ omega (arith, sum_part n i f (omega arith)) ]
+
+pub sum_times : (n c : ℕ) (f : ℕ → ℕ) → sum_to n (λ x. c * f x) ≡ c * sum_to n f
+sum_times zero c f = omega arith
+sum_times (suc n) c f = omega (arith, sum_times n c f)
+
+pub sum_each : (n c : ℕ) (f : ℕ → ℕ) → ((x : ℕ) → f x ≤ c) → sum_to n f ≤ n * c
+sum_each zero c f h = omega arith
+sum_each (suc n) c f h = omega (arith, h n, sum_each n c f h)
+
+pub sum_zero : (n : ℕ) (f : ℕ → ℕ) → ((s : ℕ) → f s ≡ 0) → sum_to n f ≡ 0
+sum_zero zero f h = refl
+sum_zero (suc n) f h = omega (arith, h n, sum_zero n f h)
+
 pub count_le : (n : ℕ) (p : ℕ → Bool) → count n p ≤ n
 count_le zero p = omega arith
 count_le (suc n) p = grind (arith, count_le n p)
@@ -39,7 +68,10 @@ pub count_more : (n i : ℕ) (p : ℕ → Bool) → i < n → p i ≡ false → 
 count_more n i p l e =
     omega (arith, ap bit e, ap bit (upd_same p i true), sum_one n i (λ x. bit (p x)) (λ x. bit (upd p i true x)) l (λ x ne. ap bit (upd_other p i true x ne)))
 
--- two numbers that are not counted leave room for two
+-- a number that is not counted leaves room for one, and two leave room for two
+pub count_room_one : (n i : ℕ) (c : ℕ → Bool) → i < n → c i ≡ false → count n c + 1 ≤ n
+count_room_one n i c l e = omega (arith, count_more n i c l e, count_le n (upd c i true))
+
 pub count_room : (n i j : ℕ) (p : ℕ → Bool) → i < n → j < n → (i ≡ j → ⊥) → p i ≡ false → p j ≡ false → count n p + 2 ≤ n
 count_room n i j p l k ne e d = omega (arith, count_more n i p l e, count_more n j (upd p i true) k (upd_other p i true j (λ q. ne (sym q)) ∙ d), count_le n (upd (upd p i true) j true))
 
