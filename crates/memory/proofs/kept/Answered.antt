@@ -10,8 +10,9 @@ use Rattle.memory.proofs.model.Steps.{passed_on, copied_to, granted_to, Serves, 
 use Rattle.memory.proofs.model.Invariant.{Core}
 use Rattle.memory.proofs.model.Kit.{Maybe, absent, just, mail_of, is_it, stage_of, deferral_of, flies, requests, Equality}
 use Rattle.memory.proofs.kept.Cells.{listed}
-use Rattle.memory.proofs.kept.Serve.{owner as owner_root}
-use Rattle.memory.proofs.kept.Lists.{serves_one, popped, others_told}
+use Rattle.memory.proofs.kept.Requests.{owner as owner_root}
+use Rattle.memory.proofs.kept.ServedLists.{serves_one}
+use Rattle.memory.proofs.kept.Waiting.{popped, others_told}
 use Rattle.memory.proofs.kept.Sims.{replace}
 use Rattle.memory.proofs.kept.Sums.{upd_same}
 

@@ -1,6 +1,6 @@
 use Rattle.memory.proofs.kept.Below.{none_true, none_false}
 use Rattle.std.proofs.Common.{◌≡◌, ℕ, zero, suc, ◌+◌, ◌<◌, Bool, true, false, cond, ◌⊎◌, List, [], ◌∷◌, ◌++◌, sym, refl, ap, ◌∙◌, inl, inr, arith}
-use Rattle.std.proofs.lemmas.Bool.{cases_eq, cases_Bool, both_ways}
+use Rattle.std.proofs.lemmas.Bool.{cases_eq, cases_Bool}
 use Rattle.memory.proofs.model.Sets.{has, Boards, nobody}
 use Rattle.memory.proofs.kept.Sets.{facts}
 use Rattle.memory.proofs.model.Sums.{upd, bit}

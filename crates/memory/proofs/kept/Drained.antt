@@ -1,14 +1,10 @@
 use Rattle.memory.proofs.kept.Sums.{sum_part, sum_times, sum_le}
-use Rattle.std.proofs.Common.{◌≡◌, ℕ, zero, suc, ◌+◌, ◌-◌, ◌*◌, ◌<◌, ◌≤◌, Bool, true, sym, refl, ap, ◌∙◌, inl, inr, arith}
-use Rattle.std.proofs.lemmas.Bool.{cases_eq, both_ways}
-use Rattle.memory.proofs.kept.Sets.{facts}
+use Rattle.std.proofs.Common.{◌≡◌, ℕ, ◌-◌, ◌*◌, ◌<◌, ◌≤◌, Bool, true, sym, refl, ap, ◌∙◌, inl, inr, arith}
 use Rattle.memory.proofs.model.Sums.{bit, sum_to}
 use Rattle.memory.proofs.model.Board.{Mail}
 use Rattle.memory.proofs.model.Page.{Mark, Journey, home, asking, queued, copied, granted, clearing, Page, awaits, busy, far, rooted, is_clearing, mark_of, mark}
 use Rattle.memory.proofs.model.Invariant.{Inv}
-use Rattle.wire.specs.Bags.{Bag, ◌&◌}
-use Rattle.memory.proofs.model.Kit.{absent, Stage, closed, Seat, Post, Kit, open_on, owner, slot, mail_of, stage_of, op_by, Equality}
-use Rattle.memory.proofs.kept.Cells.{taken_flies}
+use Rattle.memory.proofs.model.Kit.{absent, Stage, closed, Kit, stage_of, op_by}
 use Rattle.memory.proofs.model.Weights.{weight, heft}
 use Rattle.memory.proofs.model.History.{Ledger, is_open, opens_count}
 use Rattle.memory.proofs.kept.Histories.{Kept, left_of}

@@ -1,15 +1,12 @@
 use Rattle.memory.proofs.kept.Below.{all_below_at}
-use Rattle.std.proofs.Common.{◌≡◌, ℕ, zero, suc, ◌<◌, Bool, true, false, ◌⊎◌, List, [], refl, ap, ◌∙◌, inl, inr, arith}
-use Rattle.std.proofs.lemmas.Bool.{cases_eq, cases_Bool}
+use Rattle.std.proofs.Common.{◌≡◌, ℕ, ◌<◌, true, refl, ap, inl, inr, arith}
+use Rattle.std.proofs.lemmas.Bool.{cases_Bool}
 use Rattle.memory.proofs.kept.Sets.{facts}
-use Rattle.memory.proofs.model.Board.{Kind, Req}
+use Rattle.memory.proofs.model.Board.{Kind}
 use Rattle.memory.proofs.model.Page.{deferred, Journey, home, asking, queued, copied, granted, clearing, Page, busy, place, is_clearing, mark, occ}
 use Rattle.memory.proofs.model.Invariant.{Holders, Inv}
 use Rattle.memory.proofs.model.Weights.{quiet_mark, all_below, silent}
-use Rattle.memory.proofs.kept.Trees.{walk}
-
-occ_none : (a : ℕ) (xs : List Req) → xs ≡ [] → occ a xs ≡ 0
-occ_none a xs e = ap (occ a) e
+use Rattle.memory.proofs.kept.Following.{walk}
 
 module _ {W : Type 0} (n : ℕ) (v : W) (p : Page W) (i : Inv n v p) (rest : (y : ℕ) → y < n → silent n (p.journey y) ≡ true) where
   abbrev o : Holders n p
@@ -22,7 +19,7 @@ module _ {W : Type 0} (n : ℕ) (v : W) (p : Page W) (i : Inv n v p) (rest : (y 
   host : (y u h : ℕ) (k : Kind) → p.journey y ≡ queued k u h → busy (p.journey u) ≡ true
   host y u h k e = elim (cases_Bool (busy (p.journey u))) [
     | inl q ↦ q
-    | inr q ↦ absurd (let z = occ_none y (p.waits u) (i.free u q) in grind (arith, facts, i.core.lists u y))
+    | inr q ↦ absurd (let z = ap (occ y) (i.free u q) in grind (arith, facts, i.core.lists u y))
   ]
 
   next_busy : (y : ℕ) (t : Journey W) → p.journey y ≡ t → y < n → busy t ≡ true → busy (p.journey (place t y (p.entry y).hint)) ≡ true

@@ -4,7 +4,7 @@ use Rattle.std.proofs.Common.{◌≡◌, ℕ, zero, suc, ◌+◌, ◌<◌, Bool,
 use Rattle.std.proofs.lemmas.Bool.{cases_eq, cases_Bool, both_ways}
 use Rattle.memory.proofs.model.Sets.{has, Boards}
 use Rattle.memory.proofs.kept.Sets.{facts}
-use Rattle.memory.proofs.model.Sums.{upd, bit, sum_to}
+use Rattle.memory.proofs.model.Sums.{upd, bit}
 use Rattle.memory.proofs.model.Board.{write, load, store, Entry, Mail, request, copy, grant, invalidate, acknowledge, store_entry}
 use Rattle.memory.proofs.model.Page.{Mark, unmarked, sent, deferred, acked, Journey, home, asking, queued, copied, granted, clearing, Page, is_none, busy, far, cover, holder, marks}
 use Rattle.memory.proofs.model.Steps.{goes, stored_at, ask_load, ask_store, clear, MayStore, store_now}
@@ -13,8 +13,8 @@ use Rattle.wire.specs.Bags.{empty as no_mail}
 use Rattle.memory.proofs.model.History.{Order, Said, Ledger, unchanged, after, Good, Does, loads_now, loads_later, stores_now, stores_clearing, stores_later, delivers_it, delivers_none, first_ledger, first_kit}
 use Rattle.memory.proofs.kept.Steps.{step_kept, start_inv}
 use Rattle.memory.proofs.kept.Called.{ask_told, clear_told, now_told}
-use Rattle.memory.proofs.model.Weights.{silent, quiet_mark, all_below, start as first_page}
-use Rattle.memory.proofs.kept.Moves.{own}
+use Rattle.memory.proofs.model.Weights.{silent, quiet_mark, start as first_page}
+use Rattle.memory.proofs.kept.Roots.{own}
 use Rattle.memory.proofs.kept.Ends.{stuck}
 use Rattle.memory.proofs.kept.Histories.{Kept, left_of, delivered}
 use Rattle.memory.proofs.kept.Calls.{free_is, undeferred, home_is, entry_is, opened_kept, requests_self}

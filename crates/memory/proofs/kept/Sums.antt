@@ -2,7 +2,6 @@
 use Rattle.std.proofs.Common.{◌≡◌, ℕ, zero, suc, ◌+◌, ◌*◌, ◌<◌, ◌≤◌, Bool, true, false, eqb, sym, refl, ap, ◌∙◌, inl, inr, arith}
 use Rattle.std.proofs.lemmas.Bool.{cases_eq, cond-true, cond-false, eq-eqb, ne_eqb}
 use Rattle.std.proofs.lemmas.Bool.Decides.{nat_tests}
-use Rattle.memory.proofs.kept.Sets.{facts}
 use Rattle.memory.proofs.model.Sums.{upd, sum_to, bit, count}
 
 pub upd_same : {X : Type 0} (f : ℕ → X) (i : ℕ) (v : X) → upd f i v i ≡ v
@@ -17,7 +16,7 @@ upd_both P f i v x this that = elim (cases_eq x i) [ inl p ↦ rw (p, upd_same f
 
 -- the value that is there already
 pub upd_self_at : {X : Type 0} (f : ℕ → X) (b : ℕ) (v : X) → v ≡ f b → (x : ℕ) → upd f b v x ≡ f x
-upd_self_at f b v e x = grind (arith, facts)
+upd_self_at f b v e x = grind (arith, nat_tests)
 
 pub sum_same : (n : ℕ) (f g : ℕ → ℕ) → ((x : ℕ) → x < n → g x ≡ f x) → sum_to n g ≡ sum_to n f
 sum_same zero f g h = refl
@@ -74,7 +73,3 @@ count_room_one n i c l e = omega (arith, count_more n i c l e, count_le n (upd c
 
 pub count_room : (n i j : ℕ) (p : ℕ → Bool) → i < n → j < n → (i ≡ j → ⊥) → p i ≡ false → p j ≡ false → count n p + 2 ≤ n
 count_room n i j p l k ne e d = omega (arith, count_more n i p l e, count_more n j (upd p i true) k (upd_other p i true j (λ q. ne (sym q)) ∙ d), count_le n (upd (upd p i true) j true))
-
-pub count_none : (n : ℕ) → count n (λ _. false) ≡ 0
-count_none zero = refl
-count_none (suc n) = omega (arith, count_none n)

@@ -1,6 +1,6 @@
-use Rattle.memory.proofs.kept.Sums.{sum_less, count_room_one, upd_same, upd_other, sum_one, sum_le, count_le, count_more, count_room}
-use Rattle.std.proofs.Common.{◌≡◌, ℕ, zero, suc, ◌+◌, ◌*◌, ◌<◌, ◌≤◌, Bool, true, false, List, refl, ap, inl, inr, arith}
-use Rattle.std.proofs.lemmas.Bool.{cases_eq, cases_Bool}
+use Rattle.memory.proofs.kept.Sums.{count_room_one, upd_same, upd_other, sum_one, count_room}
+use Rattle.std.proofs.Common.{◌≡◌, ℕ, zero, suc, ◌+◌, ◌*◌, ◌<◌, ◌≤◌, true, false, List, refl, ap, arith}
+use Rattle.std.proofs.lemmas.Bool.{cases_Bool}
 use Rattle.memory.proofs.model.Sets.{has, put, Boards}
 use Rattle.memory.proofs.kept.Sets.{facts}
 use Rattle.memory.proofs.model.Sums.{upd, bit, sum_to, count}
@@ -10,9 +10,10 @@ use Rattle.memory.proofs.model.Page.{Mark, unmarked, deferred, acked, home, aski
 use Rattle.memory.proofs.model.Invariant.{Holders, Core, Inv}
 use Rattle.memory.proofs.model.Steps.{stored_at, Serves, passes, copies_it, grants, Serving, empty, one, Call, ask_load, ask_store, clear, Move, joins, served, grant_in, defers, drops, acks, Loaded, copy_in, copy_then_drop, Stores, grant_free, last_ack, Answer, Delivery, moves, loads, stores}
 use Rattle.memory.proofs.model.Weights.{heft, weight, Falls, Opens}
-use Rattle.memory.proofs.kept.Serve.{asker_in, owner}
-use Rattle.memory.proofs.kept.Moves.{no_access, own}
-use Rattle.memory.proofs.kept.Lists.{serves_one, popped, others_told}
+use Rattle.memory.proofs.kept.Requests.{asker_in, owner}
+use Rattle.memory.proofs.kept.Roots.{no_access, own}
+use Rattle.memory.proofs.kept.ServedLists.{serves_one}
+use Rattle.memory.proofs.kept.Waiting.{popped, others_told}
 use Rattle.memory.proofs.kept.Steps.{loaded_core, ready_core, stores_ready}
 
 -- one mark changed

@@ -1,3 +1,4 @@
+-- Following hints from board to board: who still reaches whom when a hint is turned round, and no cycle below a root.
 use Rattle.std.proofs.Common.{◌≡◌, ℕ, ◌⊎◌, sym, refl, ◌∙◌, inl, inr}
 use Rattle.std.proofs.lemmas.Bool.{cases_eq}
 use Rattle.memory.proofs.model.Tree.{Reach, here, step, Turned}

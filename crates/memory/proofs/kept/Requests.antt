@@ -1,24 +1,43 @@
-use Rattle.std.proofs.Common.{◌≡◌, ℕ, ◌<◌, true, List, sym, refl, ap, ◌∙◌, subst, arith}
+-- A request comes, and waits, or is passed on, answered by a copy or answered by a grant: what is kept of the page stays so.
+use Rattle.std.proofs.Common.{◌≡◌, ℕ, ◌<◌, true, List, sym, refl, ap, ◌∙◌, subst, arith, [], ◌∷◌, ◌++◌}
 use Rattle.memory.proofs.kept.Sets.{facts}
 use Rattle.memory.proofs.model.Sums.{upd, bit}
 use Rattle.memory.proofs.model.Tree as tree
 use Rattle.std.specs.List.{AllByRecursion as All}
 use Rattle.memory.proofs.model.Board.{Kind, load, store, Req}
-use Rattle.memory.proofs.model.Page.{Journey, home, queued, Page, busy, place, queued_at, view, At, occ}
+use Rattle.memory.proofs.model.Page.{Journey, home, queued, Page, busy, place, queued_at, view, At, occ, asking, is_queued}
 use Rattle.memory.proofs.model.Invariant.{Core}
-use Rattle.memory.proofs.kept.Others.{others_stay}
-use Rattle.memory.proofs.kept.Trees.{reach_fixed}
-use Rattle.memory.proofs.kept.Kept.{forward_kept, grant_kept}
-use Rattle.memory.proofs.model.Steps.{passed_on, copied_to, granted_to}
+use Rattle.memory.proofs.kept.Waiting.{others_stay, told_after, occ_push}
+use Rattle.memory.proofs.kept.HintTree.{forward_kept, grant_kept, state_path}
+use Rattle.memory.proofs.model.Steps.{passed_on, copied_to, granted_to, joined}
+use Rattle.memory.proofs.model.Tree as tree
+use Rattle.std.proofs.ByRecursion.{All-push}
+use Rattle.memory.proofs.kept.Sums.{upd_same, upd_both}
+use Rattle.memory.proofs.kept.Roots.{own, no_owner}
 
-pub state_path : {s t : tree.State} → s.root ≡ t.root → ((x : ℕ) → s.next x ≡ t.next x) → ((x : ℕ) → s.asked x ≡ t.asked x) → ((x : ℕ) → s.hops x ≡ t.hops x) → s ≡ t
-state_path a b c d = λ i. record { root = a i; next = λ x. b x i; asked = λ x. c x i; hops = λ x. d x i }
+module _ {W : Type 0} (n : ℕ) (v : W) (p : Page W) (i : Core n v p) where
+  -- it waits, where an access is open
+  pub joined_core : (a u h : ℕ) (k : Kind) → p.journey a ≡ asking k u h → Core n v (joined p a u k h)
+  joined_core a u h k e =
+      let o = i.holders in
+      let t = i.tables in
+      let d = i.words in
+      record {
+        ways = subst (tree.Inv n) (sym (state_path refl (λ x. grind (arith, facts)) (λ x. grind (arith, facts)) (λ x. grind (arith, facts)))) i.ways;
+        holders = grind (arith, facts);
+        tables = grind (arith, facts);
+        words = grind (arith, facts);
+        told = λ w. upd_both (λ y xs. All (λ (r : Req). upd p.journey a (queued k u h) r.asker ≡ queued r.kind y r.hops) xs) p.waits u (p.waits u ++ record { asker = a; kind = k; hops = h } ∷ []) w
+            (All-push (λ (r : Req). upd p.journey a (queued k u h) r.asker ≡ queued r.kind u r.hops) (p.waits u) (record { asker = a; kind = k; hops = h }) (told_after i a (queued k u h) (ap is_queued e) u) (upd_same p.journey a (queued k u h)))
+            (λ ne. told_after i a (queued k u h) (ap is_queued e) w);
+        lists = λ w b. grind (arith, facts, i.lists w b, i.lists u b, occ_push b (record { asker = a; kind = k; hops = h }) (p.waits u));
+      }
 
 -- a request of a at u, which has nothing open; ws: the waiting lists without it
 module _ {W : Type 0} (n : ℕ) (v : W) (p : Page W) (i : Core n v p) (u a h : ℕ) (k : Kind) (ws : ℕ → List Req) (at : At (p.journey a) k u h) (e : p.journey u ≡ home) (rest : (w b : ℕ) → occ b (ws w) ≡ bit (queued_at w (upd p.journey a home b))) (stays : (w : ℕ) → All (λ (r : Req). p.journey r.asker ≡ queued r.kind w r.hops) (ws w)) where
   -- the others in the lists wait as they did
-  told_after : (t : Journey W) (w : ℕ) → All (λ (r : Req). upd p.journey a t r.asker ≡ queued r.kind w r.hops) (ws w)
-  told_after t w = others_stay p.journey w a t (ws w) (grind (arith, facts, rest w a)) (stays w)
+  lists_after : (t : Journey W) (w : ℕ) → All (λ (r : Req). upd p.journey a t r.asker ≡ queued r.kind w r.hops) (ws w)
+  lists_after t w = others_stay p.journey w a t (ws w) (grind (arith, facts, rest w a)) (stays w)
 
   at_busy : busy (p.journey a) ≡ true
   at_busy = grind arith
@@ -35,22 +54,16 @@ module _ {W : Type 0} (n : ℕ) (v : W) (p : Page W) (i : Core n v p) (u a h : �
   pub place_in : u < n
   place_in = rw (at_place a (p.entry a).hint) at (i.ways.inside a asker_in)
 
-  -- what the code tests, hint u = u at a board with nothing open, says that u is the root
-  hint_is : place (p.journey u) u (p.entry u).hint ≡ (p.entry u).hint
-  hint_is = ap (λ t. place t u (p.entry u).hint) e
-
+  -- the code tests whether u hints at itself: that says that u is the root
   pub owner : (p.entry u).hint ≡ u → u ≡ p.root
-  owner q = reach_fixed (hint_is ∙ q) (i.ways.tree u place_in)
-
-  pub stranger : ((p.entry u).hint ≡ u → ⊥) → u ≡ p.root → ⊥
-  stranger ne q = ne (sym hint_is ∙ ap (λ x. place (p.journey x) x (p.entry x).hint) q ∙ i.ways.root_fix ∙ sym q)
+  owner q = own n v p i u place_in e q
 
   passes_view : view (passed_on p u a k h ws) ≡ tree.passed_on (view p) a u
   passes_view = state_path refl (λ x. grind (arith, facts)) (λ x. grind (arith, facts)) (λ x. grind (arith, facts))
 
   pub passes_core : ((p.entry u).hint ≡ u → ⊥) → Core n v (passed_on p u a k h ws)
   passes_core ne =
-      let nr = stranger ne in
+      let nr = no_owner n v p i u e ne in
       let o = i.holders in
       let t = i.tables in
       let d = i.words in
@@ -59,7 +72,7 @@ module _ {W : Type 0} (n : ℕ) (v : W) (p : Page W) (i : Core n v p) (u a h : �
         holders = grind (arith, facts);
         tables = grind (arith, facts);
         words = grind (arith, facts);
-        told = told_after _;
+        told = lists_after _;
         lists = grind (arith, facts);
       }
 
@@ -78,7 +91,7 @@ module _ {W : Type 0} (n : ℕ) (v : W) (p : Page W) (i : Core n v p) (u a h : �
         holders = grind (arith, facts);
         tables = grind (arith, facts);
         words = grind (arith, facts);
-        told = told_after _;
+        told = lists_after _;
         lists = grind (arith, facts);
       }
 
@@ -96,6 +109,6 @@ module _ {W : Type 0} (n : ℕ) (v : W) (p : Page W) (i : Core n v p) (u a h : �
         holders = grind (arith, facts);
         tables = grind (arith, facts);
         words = grind (arith, facts);
-        told = told_after _;
+        told = lists_after _;
         lists = grind (arith, facts);
       }

@@ -1,4 +1,6 @@
-use Rattle.std.proofs.Common.{◌≡◌, ℕ, true, false, List, [], ◌∷◌, refl, ap, ◌∙◌, inl, inr, arith}
+-- A request that is served, and a whole waiting list that is: what is kept of the page stays so.
+use Rattle.memory.proofs.kept.Waiting.{popped, others_told}
+use Rattle.std.proofs.Common.{◌≡◌, ℕ, true, false, List, [], refl, ap, ◌∙◌, inl, inr, arith}
 use Rattle.std.proofs.lemmas.Bool.{cases_eq}
 use Rattle.memory.proofs.kept.Sets.{facts}
 use Rattle.memory.proofs.model.Sums.{upd, bit}
@@ -7,8 +9,7 @@ use Rattle.memory.proofs.model.Board.{load, store, Req}
 use Rattle.memory.proofs.model.Page.{home, queued, Page, busy, queued_at, occ}
 use Rattle.memory.proofs.model.Invariant.{Core, Inv}
 use Rattle.memory.proofs.model.Steps.{Serves, passes, copies_it, grants, Serving, empty, one}
-use Rattle.memory.proofs.kept.Sums.{upd_both}
-use Rattle.memory.proofs.kept.Serve.{passes_core, copies_core, grants_core}
+use Rattle.memory.proofs.kept.Requests.{passes_core, copies_core, grants_core}
 
 -- what one served request leaves as it was
 pub record Served {W : Type 0} (n : ℕ) (v : W) (p : Page W) (u a : ℕ) (ws : ℕ → List Req) (q : Page W) : Type 0 where
@@ -23,14 +24,6 @@ module _ {W : Type 0} {n : ℕ} {v : W} {p : Page W} (i : Core n v p) (u a : ℕ
   serves_one (passes k h at ne) = record { core = passes_core n v p i u a h k ws at e rest stays ne; still = grind (arith, facts); others = grind (arith, facts); gone = grind (arith, facts); lists = refl }
   serves_one (copies_it h at q) = record { core = copies_core n v p i u a h load ws at e rest stays refl q; still = grind (arith, facts); others = grind (arith, facts); gone = grind (arith, facts); lists = refl }
   serves_one (grants h at q) = record { core = grants_core n v p i u a h store ws at e rest stays refl q; still = grind (arith, facts); others = grind (arith, facts); gone = grind (arith, facts); lists = refl }
-
--- the first of a waiting list, taken from it
-pub popped : {W : Type 0} {n : ℕ} {v : W} {p : Page W} → Core n v p → (u : ℕ) (r : Req) (rest : List Req) → p.waits u ≡ r ∷ rest → (w b : ℕ) → occ b (upd p.waits u rest w) ≡ bit (queued_at w (upd p.journey r.asker home b))
-popped {p = p} i u r rest e w b =
-    let a = r.asker in grind (arith, facts, i.lists w b, i.lists w a, i.lists u b, i.lists u a, ap (occ b) e, ap (occ a) e)
-
-pub others_told : {W : Type 0} {n : ℕ} {v : W} {p : Page W} → Core n v p → (u : ℕ) (r : Req) (rest : List Req) → p.waits u ≡ r ∷ rest → (w : ℕ) → All (λ (r : Req). p.journey r.asker ≡ queued r.kind w r.hops) (upd p.waits u rest w)
-others_told {p = p} i u r rest e w = upd_both (λ y xs. All (λ (r : Req). p.journey r.asker ≡ queued r.kind y r.hops) xs) p.waits u rest w (rw e at (i.told u)).1 (λ ne. i.told w)
 
 abbrev FreeBut : {W : Type 0} → Page W → ℕ → Type 0
 FreeBut p u = (x : ℕ) → (x ≡ u → ⊥) → busy (p.journey x) ≡ false → p.waits x ≡ []

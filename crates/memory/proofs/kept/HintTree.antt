@@ -1,10 +1,11 @@
+-- A call, a request that is passed on or granted, and an access that ends keep the tree of hints and the trail of each request.
 use Rattle.std.proofs.Common.{◌≡◌, ℕ, ◌+◌, ◌<◌, ◌≤◌, Bool, true, false, sym, refl, ap, ◌∙◌, inl, inr, arith}
 use Rattle.std.proofs.lemmas.Bool.{cases_eq, cases_Bool, both_ways}
 use Rattle.std.proofs.lemmas.Bool.Decides.{nat_tests}
 use Rattle.memory.proofs.model.Sums.{upd}
 use Rattle.memory.proofs.model.Tree.{Reach, here, step, Turned, State, Trail, Asker, Inv, opened, passed_on, granted, closed, first}
-use Rattle.memory.proofs.kept.Sums.{upd_other, upd_both, count_more, count_room, count_none}
-use Rattle.memory.proofs.kept.Trees.{reach_fixed, keeps, keeps_root, comes, no_cycle}
+use Rattle.memory.proofs.kept.Sums.{upd_other, upd_both, count_more, count_room, sum_zero}
+use Rattle.memory.proofs.kept.Following.{reach_fixed, keeps, keeps_root, comes, no_cycle}
 
 pub turned : (f : ℕ → ℕ) (a u v : ℕ) → f a ≡ u → (u ≡ a → ⊥) → Turned f (upd (upd f a v) u a) a u v
 turned f a u v e ne = record { was = e; a_now = grind (arith, nat_tests); u_now = grind (arith, nat_tests); rest = λ x p q. grind (arith, nat_tests) }
@@ -31,7 +32,7 @@ by_board : {n : ℕ} {f : ℕ → ℕ} (hops : ℕ → ℕ) (a h b : ℕ) → As
 by_board {n} {f} hops a h b this that = upd_both (λ x k. Asker n f x k) hops a h b this that
 
 fresh : {n : ℕ} {f : ℕ → ℕ} {a : ℕ} → Trail n f a 0
-fresh {n} = record { seen = λ _. false; many = count_none n; other = refl; below = λ x e. absurd (both_ways false refl e) }
+fresh {n} = record { seen = λ _. false; many = sum_zero n (λ x. 0) (λ x. refl); other = refl; below = λ x e. absurd (both_ways false refl e) }
 
 trail_more : {n : ℕ} {f g : ℕ → ℕ} {a u v h : ℕ} → Turned f g a u v → f u ≡ v → (u ≡ a → ⊥) → u < n → (Reach f a u → ⊥) → Trail n f a h → Trail n g a (h + 1)
 trail_more {n} {g = g} {a = a} {u = u} t at_u ne l out k = record {
@@ -106,3 +107,7 @@ first_inv l = record {
   tree = λ x k. step refl (here refl);
   askers = λ a e. absurd (both_ways false refl e);
 }
+
+-- the same root, hints and requests
+pub state_path : {s t : State} → s.root ≡ t.root → ((x : ℕ) → s.next x ≡ t.next x) → ((x : ℕ) → s.asked x ≡ t.asked x) → ((x : ℕ) → s.hops x ≡ t.hops x) → s ≡ t
+state_path a b c d = λ i. record { root = a i; next = λ x. b x i; asked = λ x. c x i; hops = λ x. d x i }
