@@ -41,9 +41,9 @@ use Rattle.memory.proofs.images.OpenAccesses.{pending_of}
 use Rattle.memory.proofs.images.Starting.{starts}
 use Rattle.memory.proofs.images.Stores as stores
 use Rattle.memory.proofs.kept.Drained.{left_bound, none_left}
-use Rattle.memory.proofs.kept.Rooms.{link_bound}
-use Rattle.memory.proofs.kept.Same.{same_law}
-use Rattle.memory.proofs.model.History as history
+use Rattle.memory.proofs.kept.FewWait.{link_bound}
+use Rattle.memory.proofs.kept.EqualMessages.{same_law}
+use Rattle.memory.proofs.model.Calls as history
 use Rattle.memory.proofs.model.Kit as kit
 use Rattle.memory.proofs.model.Sums.{sum_to, bit}
 

@@ -7,4 +7,4 @@ pub mod Steps
 pub mod Invariant
 pub mod Weights
 pub mod Kit
-pub mod History
+pub mod Calls

@@ -20,16 +20,16 @@ use Rattle.lone.proofs.EntryForms.{no_access}
 use Rattle.lone.proofs.LoneForms.{LoneTold, lone_told}
 use Rattle.memory.specs.Calls.{Running}
 use Rattle.memory.specs.Kits.{state_at, table_of, board_at}
-use Rattle.memory.proofs.kept.Cells.{taken_flies}
+use Rattle.memory.proofs.kept.Messages.{taken_flies}
 use Rattle.memory.proofs.kept.Delivered.{deliver_sim, request_is, invalidate_is}
 use Rattle.memory.proofs.kept.Histories.{Kept}
 use Rattle.memory.proofs.kept.Roots.{own}
-use Rattle.memory.proofs.kept.Same.{same_mail, same_law}
+use Rattle.memory.proofs.kept.EqualMessages.{same_mail, same_law}
 use Rattle.memory.proofs.kept.Sets.{facts}
 use Rattle.memory.proofs.kept.Sims.{Sim}
 use Rattle.memory.proofs.kept.Following.{reach_fixed}
 use Rattle.memory.proofs.model.Board as model
-use Rattle.memory.proofs.model.History.{Ledger}
+use Rattle.memory.proofs.model.Calls.{Ledger}
 use Rattle.memory.proofs.model.Invariant.{Inv}
 use Rattle.memory.proofs.model.Kit as kit
 use Rattle.memory.proofs.model.Sums.{bit}

@@ -32,7 +32,7 @@ use Rattle.memory.specs.Kits.{Kit, state_at, table_of, board_at}
 use Rattle.memory.specs.Ledgers as specs
 use Rattle.memory.proofs.kept.Sums.{upd_same, upd_other}
 use Rattle.memory.proofs.model.Board as model
-use Rattle.memory.proofs.model.History as history
+use Rattle.memory.proofs.model.Calls as history
 use Rattle.memory.proofs.model.Kit as kit
 use Rattle.memory.proofs.model.Sums.{upd, bit}
 use Rattle.memory.proofs.images.Follows.{Follows}

@@ -13,9 +13,9 @@ use Rattle.memory.specs.declared.call.Call.TheVariants.{Deliver}
 use Rattle.memory.proofs.kept.Drained.{left_bound}
 use Rattle.memory.proofs.kept.Histories.{left_of}
 use Rattle.memory.proofs.kept.Memory.{quiet_none}
-use Rattle.memory.proofs.kept.Same.{same_law}
+use Rattle.memory.proofs.kept.EqualMessages.{same_law}
 use Rattle.memory.proofs.model.Board as model
-use Rattle.memory.proofs.model.History as history
+use Rattle.memory.proofs.model.Calls as history
 use Rattle.memory.proofs.model.Kit as kit
 use Rattle.memory.proofs.model.Steps.{Answer}
 use Rattle.memory.proofs.model.Sums.{sum_to, bit}

@@ -29,8 +29,8 @@ use Rattle.lone.proofs.WaitingForms.{first_told}
 use Rattle.memory.specs.Calls.{Running}
 use Rattle.memory.specs.Kits.{Kit, state_at, table_of, board_at}
 use Rattle.memory.proofs.kept.Histories.{Kept, left_of, delivered}
-use Rattle.memory.proofs.kept.Same.{same_mail, same_law}
-use Rattle.memory.proofs.model.History.{Ledger, call_deliver, after, Good, said_of}
+use Rattle.memory.proofs.kept.EqualMessages.{same_mail, same_law}
+use Rattle.memory.proofs.model.Calls.{Ledger, call_deliver, after, Good, said_of}
 use Rattle.memory.proofs.model.Kit as kit
 use Rattle.memory.proofs.model.Steps.{Answer}
 use Rattle.memory.proofs.model.Page.{busy, awaits, mark, mark_of}

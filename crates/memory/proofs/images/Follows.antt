@@ -9,8 +9,8 @@ use Rattle.memory.specs.OneMemory.{AnswerIsRight}
 use Rattle.memory.specs.declared.answer.Answer.{Answer}
 use Rattle.memory.specs.declared.call.Call.{Call}
 use Rattle.memory.proofs.kept.Histories.{Kept, left_of}
-use Rattle.memory.proofs.kept.Same.{same_mail}
-use Rattle.memory.proofs.model.History.{Ledger}
+use Rattle.memory.proofs.kept.EqualMessages.{same_mail}
+use Rattle.memory.proofs.model.Calls.{Ledger}
 use Rattle.memory.proofs.model.Kit.{Kit}
 use Rattle.memory.proofs.images.Images.{W}
 use Rattle.memory.proofs.images.Ledgers.{Agrees}

@@ -3,9 +3,9 @@ use Rattle.std.proofs.Common.{◌≡◌, ℕ, ◌<◌, ◌≤◌, Bool, true, co
 use Rattle.std.proofs.lemmas.Bool.{cases_eq, eq-eqb, ne_eqb}
 use Rattle.std.specs.List.{AllByRecursion as All}
 use Rattle.wire.specs.Bags.{Bag}
-use Rattle.memory.proofs.kept.Cells.{listed, times_post}
+use Rattle.memory.proofs.kept.Messages.{listed, times_post}
 use Rattle.memory.proofs.kept.Delivered.{request_is}
-use Rattle.memory.proofs.kept.Same.{same_mail, same_law}
+use Rattle.memory.proofs.kept.EqualMessages.{same_mail, same_law}
 use Rattle.memory.proofs.model.Board.{Kind, Mail, request, copy, grant, invalidate, acknowledge}
 use Rattle.memory.proofs.model.Invariant.{Inv}
 use Rattle.memory.proofs.model.Kit.{Kit, Post, Maybe, absent, just, Told, post_all, mail_of, is_it, requests, asks_of, times, owner, slot}

@@ -22,9 +22,9 @@ use Rattle.memory.specs.declared.answer.Answer.TheVariants.{Accessed}
 use Rattle.memory.specs.declared.call.Call.TheVariants.{Store}
 use Rattle.memory.proofs.kept.Histories.{left_of}
 use Rattle.memory.proofs.kept.Memory.{does_kept, invalidates_ask}
-use Rattle.memory.proofs.kept.Same.{same_law}
+use Rattle.memory.proofs.kept.EqualMessages.{same_law}
 use Rattle.memory.proofs.model.Board as model
-use Rattle.memory.proofs.model.History as history
+use Rattle.memory.proofs.model.Calls as history
 use Rattle.memory.proofs.model.Kit as kit
 use Rattle.memory.proofs.model.Page.{is_none}
 use Rattle.memory.proofs.images.Accesses as at

@@ -9,7 +9,7 @@ use Rattle.memory.proofs.model.Page.{Journey, home, asking, queued, copied, gran
 use Rattle.memory.proofs.model.Steps.{passed_on, copied_to, granted_to, Serves, passes, copies_it, grants, Serving, empty, one}
 use Rattle.memory.proofs.model.Invariant.{Core}
 use Rattle.memory.proofs.model.Kit.{Maybe, absent, just, mail_of, is_it, stage_of, deferral_of, flies, requests, Equality}
-use Rattle.memory.proofs.kept.Cells.{listed}
+use Rattle.memory.proofs.kept.Messages.{listed}
 use Rattle.memory.proofs.kept.Requests.{owner as owner_root}
 use Rattle.memory.proofs.kept.ServedLists.{serves_one}
 use Rattle.memory.proofs.kept.Waiting.{popped, others_told}

@@ -2,7 +2,7 @@
 use Rattle.std.proofs.Common.{◌≡◌, ℕ, zero, suc, ◌<◌, Bool, true, false, refl, ap, ◌∙◌, inl, inr, arith}
 use Rattle.std.proofs.lemmas.Bool.{cases_eq, cases_Bool, both_ways}
 use Rattle.memory.proofs.model.Kit.{none_below}
-use Rattle.memory.proofs.model.Weights.{all_below}
+use Rattle.memory.proofs.model.Sums.{all_below}
 
 pub none_true : (n : ℕ) (c : ℕ → Bool) → none_below n c ≡ true → (y : ℕ) → y < n → c y ≡ false
 none_true zero c e y l = absurd (omega arith)

@@ -8,10 +8,10 @@ use Rattle.memory.proofs.model.Steps.{goes, Call, opens}
 use Rattle.memory.proofs.model.Invariant.{Inv}
 use Rattle.memory.proofs.model.Kit.{Maybe, just, Stage, closed, Board, Kit, Told, becomes, opened_seat, requests, Open, op_by, op_of, Equality}
 use Rattle.memory.proofs.model.Weights.{weight}
-use Rattle.memory.proofs.model.History.{Ledger, more_passed, opening}
+use Rattle.memory.proofs.model.Calls.{Ledger, more_passed, opening}
 use Rattle.memory.proofs.kept.Sums.{upd_same, upd_other, upd_both}
-use Rattle.memory.proofs.kept.Steps.{step_kept}
-use Rattle.memory.proofs.kept.Weights.{call_opens}
+use Rattle.memory.proofs.kept.PageKept.{step_kept}
+use Rattle.memory.proofs.kept.WorkFalls.{call_opens}
 use Rattle.memory.proofs.kept.Called.{idle}
 use Rattle.memory.proofs.kept.Histories.{Kept}
 

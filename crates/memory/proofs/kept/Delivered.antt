@@ -10,9 +10,9 @@ use Rattle.memory.proofs.model.Steps.{goes, copy_came, copy_dropped, stored_at, 
 use Rattle.memory.proofs.model.Invariant.{Holders, Inv}
 use Rattle.wire.specs.Bags.{Bag, ◌&◌}
 use Rattle.memory.proofs.model.Kit.{Maybe, absent, just, Stage, closed, asked, clears, Post, Kit, refused, replies, none_below, invalidates, vacant, with_deferral, with_awaited, finish, finish_load, asked_load, arrive, to, slot, mail_of, is_it, stage_of, deferral_of, flies, Told, becomes, arrives, requests, Equality}
-use Rattle.memory.proofs.kept.Cells.{listed, taken_flies, not_owner, not_slot, invalidates_listed}
+use Rattle.memory.proofs.kept.Messages.{listed, taken_flies, not_owner, not_slot, invalidates_listed}
 use Rattle.memory.proofs.kept.Sums.{upd_same}
-use Rattle.memory.proofs.kept.Steps.{loaded_core, ready_core, stores_ready, in_clearing}
+use Rattle.memory.proofs.kept.PageKept.{loaded_core, ready_core, stores_ready, in_clearing}
 use Rattle.memory.proofs.kept.Sims.{Sim, replace, mails_after, join_sim}
 use Rattle.memory.proofs.kept.Answered.{Changes, changes_calm, serve_told, serve_list_told}
 

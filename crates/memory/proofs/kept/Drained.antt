@@ -6,7 +6,7 @@ use Rattle.memory.proofs.model.Page.{Mark, Journey, home, asking, queued, copied
 use Rattle.memory.proofs.model.Invariant.{Inv}
 use Rattle.memory.proofs.model.Kit.{absent, Stage, closed, Kit, stage_of, op_by}
 use Rattle.memory.proofs.model.Weights.{weight, heft}
-use Rattle.memory.proofs.model.History.{Ledger, is_open, opens_count}
+use Rattle.memory.proofs.model.Calls.{Ledger, is_open, opens_count}
 use Rattle.memory.proofs.kept.Histories.{Kept, left_of}
 use Rattle.memory.proofs.kept.Memory.{not_closed_busy, open_here, stage_cases}
 

@@ -10,9 +10,9 @@ use Rattle.memory.proofs.model.Invariant.{Inv}
 use Rattle.wire.specs.Bags.{Bag, ◌&◌}
 use Rattle.memory.proofs.model.Kit.{Maybe, absent, just, Stage, closed, asked, clears, Seat, Board, Post, Kit, Reply, open_on, to, stage_of, Told, becomes, arrives, requests, Open, op_load, op_store, op_by, op_of, Equality}
 use Rattle.memory.proofs.model.Weights.{weight, Falls}
-use Rattle.memory.proofs.model.History.{call_deliver, Ledger, stored, after, Good, said_of, said_by, posts_by, kit_by}
-use Rattle.memory.proofs.kept.Steps.{step_kept}
-use Rattle.memory.proofs.kept.Weights.{delivery_falls}
+use Rattle.memory.proofs.model.Calls.{call_deliver, Ledger, stored, after, Good, said_of, said_by, posts_by, kit_by}
+use Rattle.memory.proofs.kept.PageKept.{step_kept}
+use Rattle.memory.proofs.kept.WorkFalls.{delivery_falls}
 use Rattle.memory.proofs.kept.Sims.{Tale}
 use Rattle.memory.proofs.kept.Delivered.{deliver_sim}
 

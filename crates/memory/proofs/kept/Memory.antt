@@ -6,16 +6,16 @@ use Rattle.memory.proofs.model.Sets.{has, Boards}
 use Rattle.memory.proofs.kept.Sets.{facts}
 use Rattle.memory.proofs.model.Sums.{upd, bit}
 use Rattle.memory.proofs.model.Board.{write, load, store, Entry, Mail, request, copy, grant, invalidate, acknowledge, store_entry}
-use Rattle.memory.proofs.model.Page.{Mark, unmarked, sent, deferred, acked, Journey, home, asking, queued, copied, granted, clearing, Page, is_none, busy, far, cover, holder, marks}
+use Rattle.memory.proofs.model.Page.{Mark, unmarked, sent, deferred, acked, Journey, home, asking, queued, copied, granted, clearing, Page, is_none, busy, far, cover, holder, marks, silent, quiet_mark, start as first_page}
 use Rattle.memory.proofs.model.Steps.{goes, stored_at, ask_load, ask_store, clear, MayStore, store_now}
 use Rattle.memory.proofs.model.Kit.{absent, Stage, closed, asked, clears, Seat, Board, Kit, none_below, invalidates, open_on, stage_of, flies, times, Told, becomes, opened_seat, requests, op_load, op_store, op_by, op_of, Equality}
 use Rattle.wire.specs.Bags.{empty as no_mail}
-use Rattle.memory.proofs.model.History.{Order, Said, Ledger, unchanged, after, Good, Does, loads_now, loads_later, stores_now, stores_clearing, stores_later, delivers_it, delivers_none, first_ledger, first_kit}
-use Rattle.memory.proofs.kept.Steps.{step_kept, start_inv}
+use Rattle.memory.proofs.model.Calls.{Order, Said, Ledger, unchanged, after, Good, Does, loads_now, loads_later, stores_now, stores_clearing, stores_later, delivers_it, delivers_none, first_ledger, first_kit}
+use Rattle.memory.proofs.kept.PageKept.{step_kept}
+use Rattle.memory.proofs.kept.Start.{start_inv}
 use Rattle.memory.proofs.kept.Called.{ask_told, clear_told, now_told}
-use Rattle.memory.proofs.model.Weights.{silent, quiet_mark, start as first_page}
 use Rattle.memory.proofs.kept.Roots.{own}
-use Rattle.memory.proofs.kept.Ends.{stuck}
+use Rattle.memory.proofs.kept.NoDeadlock.{stuck}
 use Rattle.memory.proofs.kept.Histories.{Kept, left_of, delivered}
 use Rattle.memory.proofs.kept.Calls.{free_is, undeferred, home_is, entry_is, opened_kept, requests_self}
 

@@ -10,7 +10,6 @@ use Rattle.memory.proofs.model.Invariant.{Core}
 use Rattle.memory.proofs.kept.Waiting.{others_stay, told_after, occ_push}
 use Rattle.memory.proofs.kept.HintTree.{forward_kept, grant_kept, state_path}
 use Rattle.memory.proofs.model.Steps.{passed_on, copied_to, granted_to, joined}
-use Rattle.memory.proofs.model.Tree as tree
 use Rattle.std.proofs.ByRecursion.{All-push}
 use Rattle.memory.proofs.kept.Sums.{upd_same, upd_both}
 use Rattle.memory.proofs.kept.Roots.{own, no_owner}

@@ -6,7 +6,7 @@ use Rattle.memory.proofs.model.Page.{Journey, asking, queued, Page, busy, far}
 use Rattle.memory.proofs.model.Steps.{joined, joins, Answer, nothing, read_at, written_at, Delivery, moves}
 use Rattle.wire.specs.Bags.{Bag, ◌&◌}
 use Rattle.memory.proofs.model.Kit.{Maybe, absent, just, Stage, closed, asked, clears, Seat, Post, Kit, replies, open_on, with_waiting, arrive, to, mail_of, is_it, flies, times, Told, post_all, becomes, arrives, requests, op_load, op_store, op_of, Equality}
-use Rattle.memory.proofs.kept.Cells.{listed, cell_change, times_post}
+use Rattle.memory.proofs.kept.Messages.{listed, cell_change, times_post}
 
 -- what a delivery tells of the open access of its board b, before and after, and of the hops
 abbrev pub Tale : {W : Type 0} → Answer W → Seat W → Seat W → ℕ → ℕ → Page W → List (Mail W) → Type 0

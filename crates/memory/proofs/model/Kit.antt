@@ -40,6 +40,11 @@ pub data Reply (W : Type 0) : Type 0 where
   refused : Reply W
   replies : Seat W → Entry W → List (Mail W) → Answer W → Reply W
 
+-- x is what stands there
+abbrev pub is_it : {X : Type 0} → (X → X → Bool) → X → Maybe X → Bool
+is_it same x absent = false
+is_it same x (just y) = same x y
+
 abbrev pub none_below : ℕ → (ℕ → Bool) → Bool
 none_below zero c = true
 none_below (suc n) c = cond (c n) false (none_below n c)
@@ -142,10 +147,6 @@ module _ {W : Type 0} where
   mail_of a (copied f h w) s = cond (s == a) (just (copy f a h w)) absent
   mail_of a (granted f h c w) s = cond (s == a) (just (grant f a h c w)) absent
   mail_of a (clearing h m) s = mark_mail a s (m s)
-
-  abbrev pub is_it : (Mail W → Mail W → Bool) → Mail W → Maybe (Mail W) → Bool
-  is_it same x absent = false
-  is_it same x (just y) = same x y
 
   abbrev pub stage_of : Journey W → Stage
   stage_of home = closed

@@ -1,7 +1,7 @@
 -- One page: what each board's table says of it, and where each board's open access on it is.
 use Rattle.std.specs.Prelude.{◌≡◌, ℕ, ◌+◌, Bool, true, false, cond, ◌⊎◌, List, [], ◌∷◌, ◌==◌}
-use Rattle.memory.proofs.model.Sets.{has, Boards}
-use Rattle.memory.proofs.model.Sums.{bit}
+use Rattle.memory.proofs.model.Sets.{has, Boards, nobody}
+use Rattle.memory.proofs.model.Sums.{bit, all_below}
 use Rattle.memory.proofs.model.Tree.{State}
 use Rattle.memory.proofs.model.Board.{Access, none, read, write, Kind, is_load, Req, Entry}
 
@@ -43,6 +43,13 @@ awaits unmarked = false
 awaits sent = true
 awaits deferred = true
 awaits acked = true
+
+-- a mark without a message on the link
+abbrev pub quiet_mark : Mark → Bool
+quiet_mark unmarked = true
+quiet_mark sent = false
+quiet_mark deferred = true
+quiet_mark acked = false
 
 abbrev pub hits : Mark → Bool
 hits unmarked = false
@@ -158,6 +165,15 @@ module _ {W : Type 0} where
   Carries (granted s h c w) v = w ≡ v
   Carries (clearing h m) v = Unit {0}
 
+  -- a journey with no message on the link
+  abbrev pub silent : ℕ → Journey W → Bool
+  silent n home = true
+  silent n (asking k u h) = false
+  silent n (queued k u h) = true
+  silent n (copied s h w) = false
+  silent n (granted s h c w) = false
+  silent n (clearing h m) = all_below n (λ x. quiet_mark (m x))
+
   abbrev pub mark : Page W → ℕ → Mark
   mark p x = mark_of (p.journey p.root) x
 
@@ -179,6 +195,10 @@ module _ {W : Type 0} where
   -- the request of a board, of kind k, is at u, on its way or waiting there
   abbrev pub At : Journey W → Kind → ℕ → ℕ → Type 0
   At t k u h = (t ≡ asking k u h) ⊎ (t ≡ queued k u h)
+
+  -- a page when a kit starts: board 0 owns it
+  abbrev pub start : W → W → Page W
+  start idle v = record { root = 0; entry = λ x. record { access = cond (x == 0) write none; hint = 0; copies = nobody; words = cond (x == 0) v idle }; journey = λ _. home; waits = λ _. [] }
 
 -- how often a stands in a list
 abbrev pub occ : ℕ → List Req → ℕ

@@ -1,5 +1,5 @@
 -- What may happen to a page: each step as the tables and journeys before and after it, and what it answers.
-use Rattle.std.specs.Prelude.{◌≡◌, ℕ, ◌+◌, ◌<◌, true, false, ◌⊎◌, List, [], ◌∷◌, ◌++◌, ◌≢◌}
+use Rattle.std.specs.Prelude.{◌≡◌, ℕ, ◌+◌, ◌-◌, ◌<◌, ◌≤◌, true, false, ◌⊎◌, List, [], ◌∷◌, ◌++◌, ◌≢◌}
 use Rattle.memory.proofs.model.Sets.{has, put, Boards}
 use Rattle.memory.proofs.model.Sums.{upd}
 use Rattle.memory.proofs.model.Board.{none, write, Kind, load, store, Req, pass_entry, copy_entry, grant_entry, got_copy, drop_entry, store_entry, got_grant}
@@ -12,6 +12,18 @@ pub data Answer (W : Type 0) : Type 0 where
   written_at : ℕ → ℕ → (W → W) → Answer W
 
 module _ {W : Type 0} where
+  -- the words of a page after a step
+  abbrev pub fed : W → Answer W → W
+  fed v nothing = v
+  fed v (read_at a h w) = v
+  fed v (written_at a h f) = f v
+
+  -- a load brings the memory's words; no access was passed on more than n - 2 times
+  abbrev pub Right : ℕ → W → Answer W → Type 0
+  Right n v nothing = Unit {0}
+  Right n v (read_at a h w) = (w ≡ v) × (h ≤ n - 2)
+  Right n v (written_at a h f) = h ≤ n - 2
+
   -- one board's journey alone is changed
   abbrev pub goes : Page W → ℕ → Journey W → Page W
   goes p a t = record { root = p.root; entry = p.entry; journey = upd p.journey a t; waits = p.waits }

@@ -1,5 +1,5 @@
--- A function changed at one number, sums and counts over the numbers below n.
-use Rattle.std.specs.Prelude.{ℕ, zero, suc, ◌+◌, Bool, cond, ◌==◌}
+-- A function changed at one number, and sums, counts and tests over the numbers below n.
+use Rattle.std.specs.Prelude.{ℕ, zero, suc, ◌+◌, Bool, true, cond, ◌&&◌, ◌==◌}
 
 abbrev pub upd : {X : Type 0} → (ℕ → X) → ℕ → X → ℕ → X
 upd f i v x = cond (x == i) v (f x)
@@ -13,3 +13,7 @@ bit b = cond b 1 0
 
 abbrev pub count : ℕ → (ℕ → Bool) → ℕ
 count n p = sum_to n (λ i. bit (p i))
+
+abbrev pub all_below : ℕ → (ℕ → Bool) → Bool
+all_below zero f = true
+all_below (suc n) f = f n && all_below n f

@@ -1,4 +1,4 @@
--- What is promised of a page through any run of its steps.
+-- How many deliveries an open access may still take: the weight of its journey.
 use Rattle.std.specs.Prelude.{◌≡◌, ℕ, zero, suc, ◌+◌, ◌-◌, ◌*◌, ◌<◌, ◌≤◌, Bool, true, false, cond, ◌&&◌, [], ◌==◌, ◌≢◌}
 use Rattle.memory.proofs.model.Sets.{has, nobody}
 use Rattle.memory.proofs.model.Sums.{sum_to, count}
@@ -12,17 +12,6 @@ heft sent = 2
 heft deferred = 1
 heft acked = 1
 
--- a mark without a message on the link
-abbrev pub quiet_mark : Mark → Bool
-quiet_mark unmarked = true
-quiet_mark sent = false
-quiet_mark deferred = true
-quiet_mark acked = false
-
-abbrev pub all_below : ℕ → (ℕ → Bool) → Bool
-all_below zero f = true
-all_below (suc n) f = f n && all_below n f
-
 module _ {W : Type 0} where
   abbrev pub weight : ℕ → Journey W → ℕ
   weight n home = 0
@@ -31,29 +20,6 @@ module _ {W : Type 0} where
   weight n (copied s h w) = 1
   weight n (granted s h c w) = 1 + 2 * count n (has c)
   weight n (clearing h m) = sum_to n (λ x. heft (m x))
-
-  -- a journey with no message on the link
-  abbrev pub silent : ℕ → Journey W → Bool
-  silent n home = true
-  silent n (asking k u h) = false
-  silent n (queued k u h) = true
-  silent n (copied s h w) = false
-  silent n (granted s h c w) = false
-  silent n (clearing h m) = all_below n (λ x. quiet_mark (m x))
-
-  abbrev pub fed : W → Answer W → W
-  fed v nothing = v
-  fed v (read_at a h w) = v
-  fed v (written_at a h f) = f v
-
-  -- a load brings the memory's words; no access was passed on more than n - 2 times
-  abbrev pub Right : ℕ → W → Answer W → Type 0
-  Right n v nothing = Unit {0}
-  Right n v (read_at a h w) = (w ≡ v) × (h ≤ n - 2)
-  Right n v (written_at a h f) = h ≤ n - 2
-
-  abbrev pub start : W → W → Page W
-  start idle v = record { root = 0; entry = λ x. record { access = cond (x == 0) write none; hint = 0; copies = nobody; words = cond (x == 0) v idle }; journey = λ _. home; waits = λ _. [] }
 
   -- no journey gets heavier, and one gets lighter
   pub record Falls (n : ℕ) (p q : Page W) : Type 0 where

@@ -1,3 +1,4 @@
+-- At most n (n - 1) messages wait on the link of n boards.
 use Rattle.memory.proofs.kept.Sums.{sum_each, sum_zero, count_room_one}
 use Rattle.std.proofs.Common.{◌≡◌, ℕ, zero, suc, ◌+◌, ◌-◌, ◌*◌, ◌<◌, ◌≤◌, Bool, true, false, ◌&&◌, eqb, sym, refl, ap, ◌∙◌, inl, inr, arith}
 use Rattle.std.proofs.lemmas.Bool.{cases_eq, cases_Bool}
@@ -8,8 +9,8 @@ use Rattle.memory.proofs.model.Page.{Mark, Journey, home, asking, queued, copied
 use Rattle.memory.proofs.model.Invariant.{Inv}
 use Rattle.wire.specs.Bags.{total, size}
 use Rattle.memory.proofs.model.Kit.{Maybe, absent, just, closed, Seat, Post, Kit, open_on, owner, slot, mark_mail, mail_of, is_it, stage_of, Equality}
-use Rattle.memory.proofs.model.History.{Ledger}
-use Rattle.memory.proofs.kept.Sizes.{some, is_in, fits}
+use Rattle.memory.proofs.model.Calls.{Ledger}
+use Rattle.memory.proofs.kept.Places.{some, fits}
 use Rattle.memory.proofs.kept.Histories.{Kept}
 
 -- with its page
@@ -30,11 +31,11 @@ post_is same law x y e =
 post_self : {W : Type 0} (same : Mail W → Mail W → Bool) → Equality same → (x : Post W) → same_post same x x ≡ true
 post_self same law x = let s = law.self x.mail in grind (arith, facts)
 
-at_it : {W : Type 0} (same : Mail W → Mail W → Bool) (p r : ℕ) (x : Mail W) (c : Maybe (Mail W)) → p ≡ r → is_it same x c ≡ is_in (same_post same) (record { page = p; mail = x }) (posted_on r c)
+at_it : {W : Type 0} (same : Mail W → Mail W → Bool) (p r : ℕ) (x : Mail W) (c : Maybe (Mail W)) → p ≡ r → is_it same x c ≡ is_it (same_post same) (record { page = p; mail = x }) (posted_on r c)
 at_it same p r x absent e = refl
 at_it same p r x (just y) e = grind (arith, facts)
 
-not_it : {W : Type 0} (same : Mail W → Mail W → Bool) (p r : ℕ) (x : Mail W) (c : Maybe (Mail W)) → (p ≡ r → ⊥) → is_in (same_post same) (record { page = p; mail = x }) (posted_on r c) ≡ false
+not_it : {W : Type 0} (same : Mail W → Mail W → Bool) (p r : ℕ) (x : Mail W) (c : Maybe (Mail W)) → (p ≡ r → ⊥) → is_it (same_post same) (record { page = p; mail = x }) (posted_on r c) ≡ false
 not_it same p r x absent ne = refl
 not_it same p r x (just y) ne = grind (arith, facts)
 
@@ -90,7 +91,7 @@ module _ {W : Type 0} {same : Mail W → Mail W → Bool} {n : ℕ} {l : Ledger 
   abbrev cell : ℕ → ℕ → Maybe (Post W)
   cell a s = posted_on (at a) (mail_of a ((i.pages (at a)).journey a) s)
 
-  counted : (x : Post W) → total (λ y. bit (same_post same x y)) k.link ≡ bit (is_in (same_post same) x (cell (owner x.mail) (slot x.mail)))
+  counted : (x : Post W) → total (λ y. bit (same_post same x y)) k.link ≡ bit (is_it (same_post same) x (cell (owner x.mail) (slot x.mail)))
   counted x =
       let o = owner x.mail in
       let c = mail_of o ((i.pages (at o)).journey o) (slot x.mail) in

@@ -1,11 +1,11 @@
+-- Every step of a page keeps what is kept of the page, and answers rightly.
 use Rattle.std.proofs.Common.{◌≡◌, ℕ, ◌-◌, ◌<◌, ◌≤◌, true, false, ◌⊎◌, [], refl, ap, inl, inr, arith}
 use Rattle.memory.proofs.kept.Sets.{facts}
 use Rattle.memory.proofs.model.Board.{load, store}
-use Rattle.memory.proofs.model.Page.{Mark, deferred, Journey, home, asking, queued, copied, granted, clearing, Page, is_none, is_write, busy, rooted, mark_of, holder}
+use Rattle.memory.proofs.model.Page.{Mark, deferred, Journey, home, asking, queued, copied, granted, clearing, Page, is_none, is_write, busy, rooted, mark_of, holder, start}
 use Rattle.memory.proofs.model.Invariant.{Holders, Tables, Data, Core, Inv}
 use Rattle.memory.proofs.kept.HintTree.{first_inv}
-use Rattle.memory.proofs.model.Steps.{stored_at, MayStore, Serving, empty, Call, ask_load, ask_store, clear, Move, joins, served, grant_in, defers, drops, acks, Loaded, copy_in, copy_then_drop, Stores, grant_free, last_ack, Answer, moves, loads, stores, Step, opens, load_now, store_now, delivers}
-use Rattle.memory.proofs.model.Weights.{fed, Right, start}
+use Rattle.memory.proofs.model.Steps.{stored_at, MayStore, Serving, empty, Call, ask_load, ask_store, clear, Move, joins, served, grant_in, defers, drops, acks, Loaded, copy_in, copy_then_drop, Stores, grant_free, last_ack, Answer, moves, loads, stores, Step, opens, load_now, store_now, delivers, fed, Right}
 use Rattle.memory.proofs.kept.PageAccesses.{ask_core, clear_core, stored_core}
 use Rattle.memory.proofs.kept.Roots.{no_access, no_owner, own}
 use Rattle.memory.proofs.kept.Requests.{joined_core}
@@ -104,16 +104,3 @@ module _ {W : Type 0} {n : ℕ} {v : W} {p : Page W} (i : Inv n v p) where
   step_kept (delivers (moves m)) = (move_kept m, tt)
   step_kept (delivers (loads a h w l more)) = (loaded_kept a h w l more, loaded_right a h w l)
   step_kept (delivers (stores a h w f k more)) = let r = stores_ready a h w k in (stored_inv a h w f r more, r.bound)
-
-pub start_inv : {W : Type 0} (n : ℕ) (idle v : W) → 0 < n → Inv n v (start idle v)
-start_inv n idle v l = record {
-  core = record {
-    ways = first_inv l;
-    holders = grind (arith, facts);
-    tables = grind (arith, facts);
-    words = grind (arith, facts);
-    told = λ u. tt;
-    lists = grind (arith, facts);
-  };
-  free = λ u e. refl;
-}

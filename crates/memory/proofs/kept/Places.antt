@@ -1,4 +1,5 @@
 -- A bag whose messages stand at places, at most one at each, is no larger than the places.
+use Rattle.memory.proofs.model.Kit.{is_it, Maybe, absent, just}
 use Rattle.std.proofs.Common.{◌≡◌, ℕ, ◌+◌, ◌<◌, ◌≤◌, Bool, true, false, sym, ap, ◌∙◌, inl, inr, arith}
 use mathlib.Core.HLevel.{is_prop→PathP}
 use native.Mathlib.Bridge.{le_prop}
@@ -6,23 +7,18 @@ use Rattle.std.proofs.lemmas.Bool.{cases_eq, cases_Bool}
 use Rattle.std.proofs.lemmas.Bool.Decides.{nat_tests}
 use Rattle.memory.proofs.model.Sums.{upd, sum_to, bit}
 use Rattle.wire.specs.Bags.{Bag, empty, ◌&◌, either_order, total, size}
-use Rattle.memory.proofs.model.Kit.{Maybe, absent, just}
 use Rattle.memory.proofs.kept.Sums.{upd_same, upd_other, sum_one}
 
 abbrev pub some : {X : Type 0} → Maybe X → Bool
 some absent = false
 some (just x) = true
 
-abbrev pub is_in : {X : Type 0} → (X → X → Bool) → X → Maybe X → Bool
-is_in same x absent = false
-is_in same x (just y) = same x y
-
 module _ {X : Type 0} (same : X → X → Bool) (is : (x y : X) → same x y ≡ true → x ≡ y) (self : (x : X) → same x x ≡ true) (f g : X → ℕ) (n : ℕ) where
   abbrev places : (ℕ → ℕ → Maybe X) → ℕ
   places k = sum_to n (λ a. sum_to n (λ s. bit (some (k a s))))
 
   abbrev Fits : Bag X → Type 0
-  Fits b = (k : ℕ → ℕ → Maybe X) → ((x : X) → total (λ y. bit (same x y)) b ≡ bit (is_in same x (k (f x) (g x)))) → ((a s : ℕ) → some (k a s) ≡ true → (a < n) × (s < n)) → size b ≤ places k
+  Fits b = (k : ℕ → ℕ → Maybe X) → ((x : X) → total (λ y. bit (same x y)) b ≡ bit (is_it same x (k (f x) (g x)))) → ((a s : ℕ) → some (k a s) ≡ true → (a < n) × (s < n)) → size b ≤ places k
 
   fits_prop : (b : Bag X) → IsProp (Fits b)
   fits_prop b u v = λ i k h r. le_prop (u k h r) (v k h r) i
@@ -30,7 +26,7 @@ module _ {X : Type 0} (same : X → X → Bool) (is : (x y : X) → same x y ≡
   abbrev less : (ℕ → ℕ → Maybe X) → X → ℕ → ℕ → Maybe X
   less k x = upd k (f x) (upd (k (f x)) (g x) absent)
 
-  held : (x : X) (c : Maybe X) → 0 < bit (is_in same x c) → c ≡ just x
+  held : (x : X) (c : Maybe X) → 0 < bit (is_it same x c) → c ≡ just x
   held x absent l = absurd (omega arith)
   held x (just y) l = let e : same x y ≡ true = grind arith in ap just (sym (is x y e))
 
@@ -46,20 +42,20 @@ module _ {X : Type 0} (same : X → X → Bool) (is : (x y : X) → same x y ≡
       omega arith
 
   -- what is at x's place after x is taken
-  at_place : (k : ℕ → ℕ → Maybe X) (x y : X) → k (f x) (g x) ≡ just x → bit (is_in same y (less k x (f y) (g y))) + bit (same y x) ≡ bit (is_in same y (k (f y) (g y)))
+  at_place : (k : ℕ → ℕ → Maybe X) (x y : X) → k (f x) (g x) ≡ just x → bit (is_it same y (less k x (f y) (g y))) + bit (same y x) ≡ bit (is_it same y (k (f y) (g y)))
   at_place k x y e = elim (cases_Bool (same y x)) [
     | inl q ↦ let p = is y x q in
         let z : less k x (f y) (g y) ≡ absent = ap (λ w. less k x (f w) (g w)) p ∙ ap (λ (w : ℕ → Maybe X). w (g x)) (upd_same k (f x) (upd (k (f x)) (g x) absent)) ∙ upd_same (k (f x)) (g x) absent in
         let w : k (f y) (g y) ≡ just x = ap (λ w. k (f w) (g w)) p ∙ e in
-        omega (arith, ap (λ c. bit (is_in same y c)) z, ap (λ c. bit (is_in same y c)) w)
+        omega (arith, ap (λ c. bit (is_it same y c)) z, ap (λ c. bit (is_it same y c)) w)
     | inr q ↦ elim (cases_eq (f y) (f x)) [
-      | inr ne ↦ omega (arith, ap bit q, ap (λ (w : ℕ → Maybe X). bit (is_in same y (w (g y)))) (upd_other k (f x) (upd (k (f x)) (g x) absent) (f y) ne))
+      | inr ne ↦ omega (arith, ap bit q, ap (λ (w : ℕ → Maybe X). bit (is_it same y (w (g y)))) (upd_other k (f x) (upd (k (f x)) (g x) absent) (f y) ne))
       | inl p ↦ elim (cases_eq (g y) (g x)) [
         | inr ne ↦ let z : less k x (f y) (g y) ≡ k (f y) (g y) = ap (λ w. less k x w (g y)) p ∙ ap (λ (w : ℕ → Maybe X). w (g y)) (upd_same k (f x) (upd (k (f x)) (g x) absent)) ∙ upd_other (k (f x)) (g x) absent (g y) ne ∙ ap (λ w. k w (g y)) (sym p) in
-            omega (arith, ap bit q, ap (λ c. bit (is_in same y c)) z)
+            omega (arith, ap bit q, ap (λ c. bit (is_it same y c)) z)
         | inl r ↦ let z : less k x (f y) (g y) ≡ absent = ap (λ w. less k x w (g y)) p ∙ ap (less k x (f x)) r ∙ ap (λ (w : ℕ → Maybe X). w (g x)) (upd_same k (f x) (upd (k (f x)) (g x) absent)) ∙ upd_same (k (f x)) (g x) absent in
             let w : k (f y) (g y) ≡ just x = ap (λ w. k w (g y)) p ∙ ap (k (f x)) r ∙ e in
-            omega (arith, ap bit q, ap (λ c. bit (is_in same y c)) z, ap (λ c. bit (is_in same y c)) w)
+            omega (arith, ap bit q, ap (λ c. bit (is_it same y c)) z, ap (λ c. bit (is_it same y c)) w)
       ]
     ]
   ]

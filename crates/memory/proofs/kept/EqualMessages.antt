@@ -1,4 +1,4 @@
--- Messages that carry lists of numbers can be told apart.
+-- A test of messages whose words are lists of numbers: it holds of equal messages alone.
 use Rattle.std.proofs.Common.{◌≡◌, ℕ, zero, suc, Bool, true, false, cond, ◌&&◌, eqb, List, [], ◌∷◌, sym, refl, ◌∙◌, arith}
 use Rattle.std.proofs.lemmas.Bool.Decides.{nat_tests}
 use Rattle.memory.proofs.model.Sums.{bit}

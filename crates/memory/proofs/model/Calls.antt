@@ -1,4 +1,4 @@
--- What calls on a kit and their answers say of one memory, by the history alone.
+-- Calls on a kit: what each does, what it says, what the ledger is after it, and whether its answer is right by the ledger before.
 use Rattle.std.specs.Prelude.{◌≡◌, ℕ, ◌+◌, ◌-◌, ◌<◌, ◌≤◌, Bool, true, false, cond, ◌⊎◌, List, [], ◌∷◌, ◌==◌, ◌≢◌}
 use Rattle.memory.proofs.model.Sets.{has, nobody}
 use Rattle.memory.proofs.model.Sums.{upd, sum_to, bit}

@@ -1,3 +1,4 @@
+-- Each delivery takes from the work that is left on its page, and an access that opens adds no more than its bound.
 use Rattle.memory.proofs.kept.Sums.{count_room_one, upd_same, upd_other, sum_one, count_room}
 use Rattle.std.proofs.Common.{◌≡◌, ℕ, zero, suc, ◌+◌, ◌*◌, ◌<◌, ◌≤◌, true, false, List, refl, ap, arith}
 use Rattle.std.proofs.lemmas.Bool.{cases_Bool}
@@ -14,7 +15,7 @@ use Rattle.memory.proofs.kept.Requests.{asker_in, owner}
 use Rattle.memory.proofs.kept.Roots.{no_access, own}
 use Rattle.memory.proofs.kept.ServedLists.{serves_one}
 use Rattle.memory.proofs.kept.Waiting.{popped, others_told}
-use Rattle.memory.proofs.kept.Steps.{loaded_core, ready_core, stores_ready}
+use Rattle.memory.proofs.kept.PageKept.{loaded_core, ready_core, stores_ready}
 
 -- one mark changed
 pub heft_one : (n x : ℕ) (m : ℕ → Mark) (t : Mark) → x < n → sum_to n (λ y. heft (upd m x t y)) + heft (m x) ≡ sum_to n (λ y. heft (m y)) + heft t
@@ -25,7 +26,7 @@ heft_marks zero c = refl
 heft_marks (suc n) c = grind (arith, heft_marks n c, cases_Bool (has c n))
 
 module _ {W : Type 0} where
-  pub record Lighter (n : ℕ) (p q : Page W) : Type 0 where
+  pub record NoneHeavier (n : ℕ) (p q : Page W) : Type 0 where
     pub never : (x : ℕ) → weight n (q.journey x) ≤ weight n (p.journey x)
 
   -- a request of a, served: no journey gets heavier, and where it was on its way a's gets lighter
@@ -41,7 +42,7 @@ module _ {W : Type 0} where
         let lacks : has (p.entry u).copies u ≡ false = grind (arith, facts, o.exact u) in
         count_room n u a (has (put (p.entry u).copies a false)) (omega (arith, i.ways.root_in)) in_a (λ s. grind arith) (grind (arith, facts)) (grind (arith, facts))
 
-    pub serves_light : {q : Page W} → Serves p u a ws q → Lighter n p q
+    pub serves_light : {q : Page W} → Serves p u a ws q → NoneHeavier n p q
     serves_light (passes k h at ne) = let b = bound k h at in record { never = λ x. grind (arith, facts) }
     serves_light (copies_it h at q) = let b = bound load h at in record { never = λ x. grind (arith, facts) }
     serves_light (grants h at q) = let b = bound store h at in let c = room h at q in record { never = λ x. grind (arith, facts) }
@@ -51,7 +52,7 @@ module _ {W : Type 0} where
     serves_less k h is (copies_it g at q) = let b = bound load g at in grind (arith, facts)
     serves_less k h is (grants g at q) = let b = bound store g at in let c = room g at q in grind (arith, facts)
 
-  pub serving_light : {n : ℕ} {v : W} (u : ℕ) {p s : Page W} → Core n v p → p.journey u ≡ home → Serving u p s → Lighter n p s
+  pub serving_light : {n : ℕ} {v : W} (u : ℕ) {p s : Page W} → Core n v p → p.journey u ≡ home → Serving u p s → NoneHeavier n p s
   serving_light u i e (empty _) = record { never = λ x. omega arith }
   serving_light {n} {v} u {p} i e (one {q = q} {s = s} r rest is this more) =
       let k = serves_one i u r.asker (upd p.waits u rest) e (popped i u r rest is) (others_told i u r rest is) this in
@@ -92,7 +93,7 @@ module _ {W : Type 0} where
     move_falls (drops c x h m e is k) = mark_falls c x h m acked _ e (ap awaits is) (grind (arith, facts)) (λ y. refl)
     move_falls (acks c x y h m e is k ne) = mark_falls c x h m unmarked _ e (ap awaits is) (grind (arith, facts)) (λ y. refl)
 
-    falls_then : {q s : Page W} → Falls n p q → Lighter n q s → Falls n p s
+    falls_then : {q s : Page W} → Falls n p q → NoneHeavier n q s → Falls n p s
     falls_then f l = record {
       never = λ x. omega (arith, f.never x, l.never x);
       who = f.who;
