@@ -40,7 +40,7 @@ use Rattle.memory.proofs.images.Loads as loads
 use Rattle.memory.proofs.images.OpenAccesses.{pending_of}
 use Rattle.memory.proofs.images.Starting.{starts}
 use Rattle.memory.proofs.images.Stores as stores
-use Rattle.memory.proofs.kept.Drained.{left_bound, none_left}
+use Rattle.memory.proofs.kept.WorkLeft.{left_bound, none_left}
 use Rattle.memory.proofs.kept.FewWait.{link_bound}
 use Rattle.memory.proofs.kept.EqualMessages.{same_law}
 use Rattle.memory.proofs.model.Calls as history

@@ -22,7 +22,7 @@ use Rattle.memory.specs.Calls.{Running}
 use Rattle.memory.specs.Kits.{state_at, table_of, board_at}
 use Rattle.memory.proofs.kept.Messages.{taken_flies}
 use Rattle.memory.proofs.kept.Delivered.{deliver_sim, request_is, invalidate_is}
-use Rattle.memory.proofs.kept.Histories.{Kept}
+use Rattle.memory.proofs.kept.KitKept.{Kept}
 use Rattle.memory.proofs.kept.Roots.{own}
 use Rattle.memory.proofs.kept.EqualMessages.{same_mail, same_law}
 use Rattle.memory.proofs.kept.Sets.{facts}

@@ -10,9 +10,9 @@ use Rattle.memory.specs.Ledgers as specs
 use Rattle.memory.specs.OneMemory.{DeliveryIsRight}
 use Rattle.memory.specs.declared.answer.Answer.TheVariants.{Arrived, Quiet}
 use Rattle.memory.specs.declared.call.Call.TheVariants.{Deliver}
-use Rattle.memory.proofs.kept.Drained.{left_bound}
-use Rattle.memory.proofs.kept.Histories.{left_of}
-use Rattle.memory.proofs.kept.Memory.{quiet_none}
+use Rattle.memory.proofs.kept.WorkLeft.{left_bound}
+use Rattle.memory.proofs.kept.KitKept.{left_of}
+use Rattle.memory.proofs.kept.NothingWaits.{quiet_none}
 use Rattle.memory.proofs.kept.EqualMessages.{same_law}
 use Rattle.memory.proofs.model.Board as model
 use Rattle.memory.proofs.model.Calls as history

@@ -28,7 +28,8 @@ use Rattle.lone.proofs.Others.{another_is}
 use Rattle.lone.proofs.WaitingForms.{first_told}
 use Rattle.memory.specs.Calls.{Running}
 use Rattle.memory.specs.Kits.{Kit, state_at, table_of, board_at}
-use Rattle.memory.proofs.kept.Histories.{Kept, left_of, delivered}
+use Rattle.memory.proofs.kept.KitKept.{Kept, left_of}
+use Rattle.memory.proofs.kept.DeliveryKept.{delivered}
 use Rattle.memory.proofs.kept.EqualMessages.{same_mail, same_law}
 use Rattle.memory.proofs.model.Calls.{Ledger, call_deliver, after, Good, said_of}
 use Rattle.memory.proofs.model.Kit as kit

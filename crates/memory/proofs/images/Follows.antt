@@ -8,7 +8,7 @@ use Rattle.memory.specs.Ledgers as specs
 use Rattle.memory.specs.OneMemory.{AnswerIsRight}
 use Rattle.memory.specs.declared.answer.Answer.{Answer}
 use Rattle.memory.specs.declared.call.Call.{Call}
-use Rattle.memory.proofs.kept.Histories.{Kept, left_of}
+use Rattle.memory.proofs.kept.KitKept.{Kept, left_of}
 use Rattle.memory.proofs.kept.EqualMessages.{same_mail}
 use Rattle.memory.proofs.model.Calls.{Ledger}
 use Rattle.memory.proofs.model.Kit.{Kit}

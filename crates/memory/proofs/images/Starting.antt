@@ -18,7 +18,7 @@ use Rattle.memory.specs.Ledgers.{fresh}
 use Rattle.memory.specs.Placements.{Placement, InRange, array, after_placing}
 use Rattle.memory.specs.Reached.{begun}
 use Rattle.memory.proofs.Placing.{placed_table, shaped_placing, some_tables, placed_words}
-use Rattle.memory.proofs.kept.Memory.{start_kept, start_left}
+use Rattle.memory.proofs.kept.Start.{start_kept, start_left}
 use Rattle.memory.proofs.kept.EqualMessages.{same_mail}
 use Rattle.memory.proofs.model.Board as model
 use Rattle.memory.proofs.model.Calls as history

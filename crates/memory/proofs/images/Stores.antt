@@ -20,8 +20,9 @@ use Rattle.memory.specs.Kits.{state_at, table_of, board_at}
 use Rattle.memory.specs.Ledgers as specs
 use Rattle.memory.specs.declared.answer.Answer.TheVariants.{Accessed}
 use Rattle.memory.specs.declared.call.Call.TheVariants.{Store}
-use Rattle.memory.proofs.kept.Histories.{left_of}
-use Rattle.memory.proofs.kept.Memory.{does_kept, invalidates_ask}
+use Rattle.memory.proofs.kept.KitKept.{left_of}
+use Rattle.memory.proofs.kept.CallsKept.{does_kept}
+use Rattle.memory.proofs.kept.Messages.{invalidates_ask}
 use Rattle.memory.proofs.kept.EqualMessages.{same_law}
 use Rattle.memory.proofs.model.Board as model
 use Rattle.memory.proofs.model.Calls as history

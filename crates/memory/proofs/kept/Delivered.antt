@@ -1,5 +1,6 @@
+use Rattle.memory.proofs.kept.Messages.{invalidates_ask, listed, taken_flies, not_owner, not_slot, invalidates_listed}
 use Rattle.memory.proofs.kept.Below.{none_true, none_false}
-use Rattle.std.proofs.Common.{◌≡◌, ℕ, zero, suc, ◌+◌, ◌<◌, Bool, true, false, cond, ◌⊎◌, List, [], ◌∷◌, ◌++◌, sym, refl, ap, ◌∙◌, inl, inr, arith}
+use Rattle.std.proofs.Common.{◌≡◌, ℕ, ◌+◌, ◌<◌, Bool, true, false, cond, ◌⊎◌, List, [], ◌∷◌, sym, refl, ap, ◌∙◌, inl, inr, arith}
 use Rattle.std.proofs.lemmas.Bool.{cases_eq, cases_Bool}
 use Rattle.memory.proofs.model.Sets.{has, Boards, nobody}
 use Rattle.memory.proofs.kept.Sets.{facts}
@@ -10,7 +11,6 @@ use Rattle.memory.proofs.model.Steps.{goes, copy_came, copy_dropped, stored_at, 
 use Rattle.memory.proofs.model.Invariant.{Holders, Inv}
 use Rattle.wire.specs.Bags.{Bag, ◌&◌}
 use Rattle.memory.proofs.model.Kit.{Maybe, absent, just, Stage, closed, asked, clears, Post, Kit, refused, replies, none_below, invalidates, vacant, with_deferral, with_awaited, finish, finish_load, asked_load, arrive, to, slot, mail_of, is_it, stage_of, deferral_of, flies, Told, becomes, arrives, requests, Equality}
-use Rattle.memory.proofs.kept.Messages.{listed, taken_flies, not_owner, not_slot, invalidates_listed}
 use Rattle.memory.proofs.kept.Sums.{upd_same}
 use Rattle.memory.proofs.kept.PageKept.{loaded_core, ready_core, stores_ready, in_clearing}
 use Rattle.memory.proofs.kept.Sims.{Sim, replace, mails_after, join_sim}
@@ -173,17 +173,6 @@ module _ {W : Type 0} (same : Mail W → Mail W → Bool) (law : Equality same) 
       let ne : x ≡ a → ⊥ = λ s. let z = c.stage a in grind arith in
       omega (arith, c.hops x, others x ne)
 
-  done_calm : (a : ℕ) (g q : Page W) (ent : Entry W) (old : Maybe (Mail W)) (ms : List (Mail W)) → Changes same g q a ent old ms → (x : ℕ) → busy (q.journey x) ≡ false → requests x ms ≡ 0
-  done_calm a g q ent old ms c x off = let z = c.hops x in grind arith
-
-  requests_app : (x : ℕ) (xs ys : List (Mail W)) → requests x (xs ++ ys) ≡ requests x xs + requests x ys
-  requests_app x [] ys = omega arith
-  requests_app x (m ∷ xs) ys = omega (arith, requests_app x xs ys)
-
-  invalidates_ask : (m a x : ℕ) (c : Boards) → requests x (invalidates {W = W} m a c) ≡ 0
-  invalidates_ask zero a x c = refl
-  invalidates_ask (suc m) a x c = grind (arith, invalidates_ask m a x c, requests_app x (invalidates {W = W} m a c) (cond (has c m) (invalidate a m ∷ []) []))
-
   -- a grant, with copies out
   grant_sim : (a f h : ℕ) (c : Boards) (w : W) → Takes (grant f a h c w) → P.journey a ≡ granted f h c w → none_below n (has c) ≡ false → Sim same n k pages p (grant f a h c w) rest
   grant_sim a f h c w e at more =
@@ -201,8 +190,8 @@ module _ {W : Type 0} (same : Mail W → Mail W → Bool) (law : Equality same) 
         moved = moves (grant_in a f h y.0 c w at y.2);
         same_page = refl;
         tale = grind (arith, facts, t.stages a p);
-        hops = λ x _. let z = invalidates_ask n a x c in grind (arith, facts);
-        calm = λ x _. invalidates_ask n a x c;
+        hops = λ x _. let z = invalidates_ask n a x c (invalidates {W = W} n a c) refl in grind (arith, facts);
+        calm = λ x _. invalidates_ask n a x c (invalidates n a c) refl;
         told = record {
           entries = λ y r. grind (arith, facts, t.entries y r);
           stages = λ y r. grind (arith, facts, t.stages y r);
@@ -261,7 +250,7 @@ module _ {W : Type 0} (same : Mail W → Mail W → Bool) (law : Equality same) 
         same_page = refl;
         tale = (refl, grind (arith, facts, t.stages a p), refl, ap far (sym at), done_asks a q1 q _ absent _ c (upd_same P.journey a home));
         hops = λ x on. done_hops a q1 q _ absent _ c (upd_same P.journey a home) (λ y ne. grind (arith, facts)) x on;
-        calm = λ x off. done_calm a q1 q _ absent _ c x off;
+        calm = λ x off. changes_calm c x off;
         told = finish_told a (copy f a h w) q1 q (serve_entries a (q1.entry a) rs) (serve_mails a (q1.entry a) rs) (serve_mails a (q1.entry a) rs) e b
             (λ x ne. grind (arith, facts))
             (λ x. grind (arith, facts))
@@ -304,7 +293,7 @@ module _ {W : Type 0} (same : Mail W → Mail W → Bool) (law : Equality same) 
         same_page = refl;
         tale = (refl, grind (arith, facts, t.stages a p), refl, ap far (sym at), omega (arith, done_asks a q1 q _ absent _ c (upd_same mid a home)));
         hops = λ x on. omega (arith, done_hops a q1 q _ absent _ c (upd_same mid a home) (λ y ne. grind (arith, facts)) x on);
-        calm = λ x off. omega (arith, done_calm a q1 q _ absent _ c x off);
+        calm = λ x off. omega (arith, changes_calm c x off);
         told = finish_told a (copy f a h w) q1 q (serve_entries a (q1.entry a) rs) (acknowledge a r ∷ serve_mails a (q1.entry a) rs) (serve_mails a (q1.entry a) rs) e b
             (λ x ne. grind (arith, facts))
             (λ x. grind (arith, facts))
@@ -347,7 +336,7 @@ module _ {W : Type 0} (same : Mail W → Mail W → Bool) (law : Equality same) 
         same_page = refl;
         tale = (refl, grind (arith, facts, t.stages a p), refl, ap far (sym at), done_asks a q1 q _ absent _ d (upd_same P.journey a home));
         hops = λ x on. done_hops a q1 q _ absent _ d (upd_same P.journey a home) (λ y ne. grind (arith, facts)) x on;
-        calm = λ x off. done_calm a q1 q _ absent _ d x off;
+        calm = λ x off. changes_calm d x off;
         told = finish_told a (grant f a h c w) q1 q (serve_entries a (q1.entry a) rs) (serve_mails a (q1.entry a) rs) (serve_mails a (q1.entry a) rs) e b
             (λ x ne. grind (arith, facts))
             (λ x. grind (arith, facts))
@@ -402,7 +391,7 @@ module _ {W : Type 0} (same : Mail W → Mail W → Bool) (law : Equality same) 
         same_page = refl;
         tale = (refl, grind (arith, facts, t.stages a p), refl, ap far (sym at), done_asks a q1 q _ absent _ d (upd_same P.journey a home));
         hops = λ x on. done_hops a q1 q _ absent _ d (upd_same P.journey a home) (λ y ne. grind (arith, facts)) x on;
-        calm = λ x off. done_calm a q1 q _ absent _ d x off;
+        calm = λ x off. changes_calm d x off;
         told = finish_told a (acknowledge x a) q1 q (serve_entries a (q1.entry a) rs) (serve_mails a (q1.entry a) rs) (serve_mails a (q1.entry a) rs) e b
             (λ x ne. grind (arith, facts))
             (λ x. grind (arith, facts))

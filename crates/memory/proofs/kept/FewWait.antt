@@ -1,4 +1,5 @@
 -- At most n (n - 1) messages wait on the link of n boards.
+use Rattle.memory.proofs.kept.Stages.{closed_home, off_page}
 use Rattle.memory.proofs.kept.Sums.{sum_each, sum_zero, count_room_one}
 use Rattle.std.proofs.Common.{◌≡◌, ℕ, zero, suc, ◌+◌, ◌-◌, ◌*◌, ◌<◌, ◌≤◌, Bool, true, false, ◌&&◌, eqb, sym, refl, ap, ◌∙◌, inl, inr, arith}
 use Rattle.std.proofs.lemmas.Bool.{cases_eq, cases_Bool}
@@ -8,10 +9,10 @@ use Rattle.memory.proofs.model.Board.{Mail}
 use Rattle.memory.proofs.model.Page.{Mark, Journey, home, asking, queued, copied, granted, clearing, Page, awaits, busy, rooted, mark_of, mark}
 use Rattle.memory.proofs.model.Invariant.{Inv}
 use Rattle.wire.specs.Bags.{total, size}
-use Rattle.memory.proofs.model.Kit.{Maybe, absent, just, closed, Seat, Post, Kit, open_on, owner, slot, mark_mail, mail_of, is_it, stage_of, Equality}
+use Rattle.memory.proofs.model.Kit.{Maybe, absent, just, Post, Kit, owner, slot, mark_mail, mail_of, is_it, Equality}
 use Rattle.memory.proofs.model.Calls.{Ledger}
 use Rattle.memory.proofs.kept.Places.{some, fits}
-use Rattle.memory.proofs.kept.Histories.{Kept}
+use Rattle.memory.proofs.kept.KitKept.{Kept}
 
 -- with its page
 abbrev posted_on : {W : Type 0} → ℕ → Maybe (Mail W) → Maybe (Post W)
@@ -97,14 +98,8 @@ module _ {W : Type 0} {same : Mail W → Mail W → Bool} {n : ℕ} {l : Ledger 
       let c = mail_of o ((i.pages (at o)).journey o) (slot x.mail) in
       i.told.mails x.page x.mail ∙ elim (cases_eq x.page (at o)) [
         | inl e ↦ ap bit (ap (λ p. is_it same x.mail (mail_of o ((i.pages p).journey o) (slot x.mail))) e ∙ at_it same x.page (at o) x.mail c e)
-        | inr ne ↦ ap bit (ap (λ j. is_it same x.mail (mail_of o j (slot x.mail))) (home_of ((i.pages x.page).journey o) (i.told.stages o x.page ∙ away (k.board o).seat x.page ne)) ∙ sym (not_it same x.page (at o) x.mail c ne))
+        | inr ne ↦ ap bit (ap (λ j. is_it same x.mail (mail_of o j (slot x.mail))) (closed_home ((i.pages x.page).journey o) (i.told.stages o x.page ∙ off_page (k.board o).seat x.page (λ q. ne (sym q)))) ∙ sym (not_it same x.page (at o) x.mail c ne))
       ]
-    where
-      home_of : (j : Journey W) → stage_of j ≡ closed → j ≡ home
-      home_of j e = grind arith
-
-      away : (s : Seat W) (p : ℕ) → (p ≡ s.page → ⊥) → open_on s p ≡ closed
-      away s p ne = grind (arith, facts)
 
   each_row : (a : ℕ) → sum_to n (λ s. bit (some (cell a s))) ≤ n - 1
   each_row a = elim (cases_Bool (busy ((i.pages (at a)).journey a))) [

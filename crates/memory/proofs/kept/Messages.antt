@@ -7,7 +7,7 @@ use Rattle.memory.proofs.model.Sums.{bit}
 use Rattle.memory.proofs.model.Board.{Mail, invalidate}
 use Rattle.memory.proofs.model.Page.{Journey, home, asking, queued, copied, granted, clearing, marks}
 use Rattle.wire.specs.Bags.{Bag, ◌&◌}
-use Rattle.memory.proofs.model.Kit.{Equality, Maybe, absent, just, Post, owner, slot, mark_mail, mail_of, is_it, flies, times, post_all, invalidates}
+use Rattle.memory.proofs.model.Kit.{Equality, Maybe, absent, just, Post, owner, slot, mark_mail, mail_of, is_it, flies, times, post_all, invalidates, requests}
 
 abbrev pub Keyed : {W : Type 0} → Maybe (Mail W) → ℕ → ℕ → Type 0
 Keyed absent o s = Unit {0}
@@ -16,6 +16,18 @@ Keyed (just m) o s = (owner m ≡ o) × (slot m ≡ s)
 abbrev pub listed : {W : Type 0} → (Mail W → Mail W → Bool) → Mail W → List (Mail W) → ℕ
 listed same x [] = 0
 listed same x (m ∷ ms) = bit (same x m) + listed same x ms
+
+-- there are no requests among invalidations
+requests_app : {W : Type 0} (x : ℕ) (xs ys : List (Mail W)) → requests x (xs ++ ys) ≡ requests x xs + requests x ys
+requests_app x [] ys = omega arith
+requests_app x (m ∷ xs) ys = omega (arith, requests_app x xs ys)
+
+pub invalidates_ask : {W : Type 0} (m a x : ℕ) (c : Boards) (ms : List (Mail W)) → ms ≡ invalidates m a c → requests x ms ≡ 0
+invalidates_ask {W} m a x c ms e = ap (requests x) e ∙ go m
+  where
+    go : (m : ℕ) → requests x (invalidates {W = W} m a c) ≡ 0
+    go zero = refl
+    go (suc m) = grind (arith, go m, requests_app x (invalidates {W = W} m a c) (cond (has c m) (invalidate a m ∷ []) []))
 
 module _ {W : Type 0} (same : Mail W → Mail W → Bool) (law : Equality same) where
   pub keyed : (a s : ℕ) (t : Journey W) → Keyed (mail_of a t s) a s

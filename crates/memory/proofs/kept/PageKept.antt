@@ -2,9 +2,8 @@
 use Rattle.std.proofs.Common.{◌≡◌, ℕ, ◌-◌, ◌<◌, ◌≤◌, true, false, ◌⊎◌, [], refl, ap, inl, inr, arith}
 use Rattle.memory.proofs.kept.Sets.{facts}
 use Rattle.memory.proofs.model.Board.{load, store}
-use Rattle.memory.proofs.model.Page.{Mark, deferred, Journey, home, asking, queued, copied, granted, clearing, Page, is_none, is_write, busy, rooted, mark_of, holder, start}
+use Rattle.memory.proofs.model.Page.{Mark, deferred, Journey, home, asking, queued, copied, granted, clearing, Page, is_none, is_write, busy, rooted, mark_of, holder}
 use Rattle.memory.proofs.model.Invariant.{Holders, Tables, Data, Core, Inv}
-use Rattle.memory.proofs.kept.HintTree.{first_inv}
 use Rattle.memory.proofs.model.Steps.{stored_at, MayStore, Serving, empty, Call, ask_load, ask_store, clear, Move, joins, served, grant_in, defers, drops, acks, Loaded, copy_in, copy_then_drop, Stores, grant_free, last_ack, Answer, moves, loads, stores, Step, opens, load_now, store_now, delivers, fed, Right}
 use Rattle.memory.proofs.kept.PageAccesses.{ask_core, clear_core, stored_core}
 use Rattle.memory.proofs.kept.Roots.{no_access, no_owner, own}

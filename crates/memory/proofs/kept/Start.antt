@@ -1,9 +1,14 @@
 -- A kit that just started is told by its pages, and has no work left.
-use Rattle.std.proofs.Common.{◌≡◌, ℕ, ◌<◌, refl, arith}
+use Rattle.memory.proofs.kept.Sums.{sum_zero}
+use Rattle.std.proofs.Common.{◌≡◌, ℕ, ◌<◌, Bool, false, refl, arith}
+use Rattle.std.proofs.lemmas.Bool.{both_ways}
 use Rattle.memory.proofs.kept.Sets.{facts}
+use Rattle.memory.proofs.model.Board.{Mail}
+use Rattle.memory.proofs.model.Page.{start as first_page, start}
+use Rattle.memory.proofs.model.Calls.{first_ledger, first_kit}
+use Rattle.memory.proofs.kept.KitKept.{Kept, left_of}
 use Rattle.memory.proofs.kept.HintTree.{first_inv}
 use Rattle.memory.proofs.model.Invariant.{Inv}
-use Rattle.memory.proofs.model.Page.{start}
 
 pub start_inv : {W : Type 0} (n : ℕ) (idle v : W) → 0 < n → Inv n v (start idle v)
 start_inv n idle v l = record {
@@ -17,3 +22,20 @@ start_inv n idle v l = record {
   };
   free = λ u e. refl;
 }
+
+-- a kit just started
+pub start_kept : {W : Type 0} (same : Mail W → Mail W → Bool) (n : ℕ) (idle : W) (v : ℕ → W) → 0 < n → Kept same n (first_ledger v) (first_kit idle v)
+start_kept same n idle v l = record {
+  pages = λ p. first_page idle (v p);
+  told = record { entries = λ x p. refl; stages = λ x p. grind (arith, facts); awaiting = λ x y. refl; waitings = λ x p. grind (arith, facts); deferrals = λ x. refl; mails = λ p x. refl };
+  each = λ p. start_inv n idle (v p) l;
+  opens = λ x. refl;
+  passed = λ x e. absurd (both_ways false refl e);
+  light = λ p x. omega arith;
+  bound = λ x. omega arith;
+}
+
+-- and nothing is left to do
+pub start_left : {W : Type 0} (same : Mail W → Mail W → Bool) (n : ℕ) (idle : W) (v : ℕ → W) (l : 0 < n) → left_of (start_kept same n idle v l) ≡ 0
+unfolding start_kept
+start_left same n idle v l = sum_zero n (λ x. 0) (λ x. refl)

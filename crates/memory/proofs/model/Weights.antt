@@ -1,10 +1,9 @@
 -- How many deliveries an open access may still take: the weight of its journey.
-use Rattle.std.specs.Prelude.{◌≡◌, ℕ, zero, suc, ◌+◌, ◌-◌, ◌*◌, ◌<◌, ◌≤◌, Bool, true, false, cond, ◌&&◌, [], ◌==◌, ◌≢◌}
-use Rattle.memory.proofs.model.Sets.{has, nobody}
+use Rattle.std.specs.Prelude.{◌≡◌, ℕ, ◌+◌, ◌-◌, ◌*◌, ◌<◌, ◌≤◌, cond, ◌≢◌}
+use Rattle.memory.proofs.model.Sets.{has}
 use Rattle.memory.proofs.model.Sums.{sum_to, count}
-use Rattle.memory.proofs.model.Board.{none, write, is_load}
+use Rattle.memory.proofs.model.Board.{is_load}
 use Rattle.memory.proofs.model.Page.{Mark, unmarked, sent, deferred, acked, Journey, home, asking, queued, copied, granted, clearing, Page}
-use Rattle.memory.proofs.model.Steps.{Answer, nothing, read_at, written_at}
 
 abbrev pub heft : Mark → ℕ
 heft unmarked = 0

@@ -1,14 +1,15 @@
+-- The work that is left: none is where nothing is open, and each open access has no more than its bound.
 use Rattle.memory.proofs.kept.Sums.{sum_part, sum_times, sum_le}
 use Rattle.std.proofs.Common.{◌≡◌, ℕ, ◌-◌, ◌*◌, ◌<◌, ◌≤◌, Bool, true, sym, refl, ap, ◌∙◌, inl, inr, arith}
 use Rattle.memory.proofs.model.Sums.{bit, sum_to}
 use Rattle.memory.proofs.model.Board.{Mail}
 use Rattle.memory.proofs.model.Page.{Mark, Journey, home, asking, queued, copied, granted, clearing, Page, awaits, busy, far, rooted, is_clearing, mark_of, mark}
 use Rattle.memory.proofs.model.Invariant.{Inv}
-use Rattle.memory.proofs.model.Kit.{absent, Stage, closed, Kit, stage_of, op_by}
+use Rattle.memory.proofs.model.Kit.{absent, Stage, closed, Kit, op_by}
 use Rattle.memory.proofs.model.Weights.{weight, heft}
 use Rattle.memory.proofs.model.Calls.{Ledger, is_open, opens_count}
-use Rattle.memory.proofs.kept.Histories.{Kept, left_of}
-use Rattle.memory.proofs.kept.Memory.{not_closed_busy, open_here, stage_cases}
+use Rattle.memory.proofs.kept.KitKept.{Kept, left_of, shut_absent, open_journey}
+use Rattle.memory.proofs.kept.Stages.{stage_cases, open_here, closed_home}
 
 -- an open access weighs something
 clearing_heavy : (n y : ℕ) (m : ℕ → Mark) → y < n → awaits (m y) ≡ true → 0 < sum_to n (λ x. heft (m x))
@@ -33,26 +34,17 @@ module _ {W : Type 0} {same : Mail W → Mail W → Bool} {n : ℕ} {l : Ledger 
   abbrev here : ℕ → Journey W
   here x = (i.pages (k.board x).seat.page).journey x
 
-  open_busy : (x : ℕ) → ((k.board x).seat.stage ≡ closed → ⊥) → busy (here x) ≡ true
-  open_busy x ne = not_closed_busy (here x) (k.board x).seat.stage (i.told.stages x (k.board x).seat.page ∙ open_here (k.board x).seat) ne
-
-  shut_absent : (x : ℕ) → (k.board x).seat.stage ≡ closed → l.opens x ≡ absent
-  shut_absent x c = i.opens x ∙ ap (λ z. op_by z (k.board x).seat.page (k.board x).seat.act) c
-
   -- with nothing left to do nothing is open
   pub none_left : left_of i ≡ 0 → (x : ℕ) → l.opens x ≡ absent
   none_left z x = elim (stage_cases (k.board x).seat.stage) [
-    | inl c ↦ shut_absent x c
+    | inl c ↦ shut_absent i x c
     | inr ne ↦ absurd (
         let p = (k.board x).seat.page in
-        let b = open_busy x ne in
+        let b = open_journey i x ne in
         let w = busy_heavy n (l.memory p) (i.pages p) (i.each p) x (here x) refl b in
         let s = sum_part n x (λ y. weight n (here y)) ((i.each p).core.ways.askers x b).in_range in
         omega arith)
   ]
-
-  idle_light : (j : Journey W) → stage_of j ≡ closed → weight n j ≡ 0
-  idle_light j e = grind arith
 
   -- what is left is at most so much for each open access
   pub left_bound : left_of i ≤ (3 * n - 4) * opens_count n l
@@ -63,7 +55,7 @@ module _ {W : Type 0} {same : Mail W → Mail W → Bool} {n : ℕ} {l : Ledger 
 
       each_bound : (x : ℕ) → weight n (here x) ≤ (3 * n - 4) * bit (is_open (l.opens x))
       each_bound x = elim (stage_cases (k.board x).seat.stage) [
-        | inl c ↦ let z = idle_light (here x) (i.told.stages x (k.board x).seat.page ∙ open_here (k.board x).seat ∙ c) in omega arith
+        | inl c ↦ let z = ap (weight n) (closed_home (here x) (i.told.stages x (k.board x).seat.page ∙ open_here (k.board x).seat (k.board x).seat.page refl ∙ c)) in omega arith
         | inr ne ↦ let z : bit (is_open (l.opens x)) ≡ 1 = ap (λ o. bit (is_open o)) (i.opens x) ∙ ap bit (just_open (k.board x).seat.stage (k.board x).seat.page (k.board x).seat.act ne) in
             let y : (3 * n - 4) * bit (is_open (l.opens x)) ≡ 3 * n - 4 = rw z (omega arith) in
             omega (arith, i.light (k.board x).seat.page x)

@@ -1,82 +1,26 @@
-use Rattle.memory.proofs.kept.Below.{none_true, none_false, all_below_all}
-use Rattle.memory.proofs.kept.Sums.{sum_zero, upd_self_at, upd_same, upd_other, upd_both}
-use Rattle.std.proofs.Common.{◌≡◌, ℕ, zero, suc, ◌+◌, ◌<◌, Bool, true, false, cond, ◌⊎◌, List, [], ◌∷◌, ◌++◌, sym, refl, ap, ◌∙◌, subst, inl, inr, arith}
-use Rattle.std.proofs.lemmas.Bool.{cases_eq, cases_Bool, both_ways}
-use Rattle.memory.proofs.model.Sets.{has, Boards}
+-- A call on a kit keeps what is kept of it, and is answered rightly.
+use Rattle.memory.proofs.kept.NothingWaits.{quiet_none}
+use Rattle.memory.proofs.kept.Messages.{invalidates_ask}
+use Rattle.memory.proofs.kept.KitKept.{Kept, nothing_new}
+use Rattle.memory.proofs.kept.Below.{none_true, none_false}
+use Rattle.memory.proofs.kept.Sums.{upd_self_at, upd_same, upd_other, upd_both}
+use Rattle.std.proofs.Common.{◌≡◌, ℕ, ◌<◌, Bool, true, false, ◌⊎◌, List, [], ◌∷◌, sym, refl, ap, ◌∙◌, subst, inl, inr, arith}
+use Rattle.std.proofs.lemmas.Bool.{cases_eq, cases_Bool}
+use Rattle.memory.proofs.model.Sets.{has}
 use Rattle.memory.proofs.kept.Sets.{facts}
-use Rattle.memory.proofs.model.Sums.{upd, bit}
-use Rattle.memory.proofs.model.Board.{write, load, store, Entry, Mail, request, copy, grant, invalidate, acknowledge, store_entry}
-use Rattle.memory.proofs.model.Page.{Mark, unmarked, sent, deferred, acked, Journey, home, asking, queued, copied, granted, clearing, Page, is_none, busy, far, cover, holder, marks, silent, quiet_mark, start as first_page}
+use Rattle.memory.proofs.model.Sums.{upd}
+use Rattle.memory.proofs.model.Board.{write, load, store, Entry, Mail, request, store_entry}
+use Rattle.memory.proofs.model.Page.{home, asking, clearing, Page, is_none, busy, far, cover, holder, marks}
 use Rattle.memory.proofs.model.Steps.{goes, stored_at, ask_load, ask_store, clear, MayStore, store_now}
-use Rattle.memory.proofs.model.Kit.{absent, Stage, closed, asked, clears, Seat, Board, Kit, none_below, invalidates, open_on, stage_of, flies, times, Told, becomes, opened_seat, requests, op_load, op_store, op_by, op_of, Equality}
-use Rattle.wire.specs.Bags.{empty as no_mail}
-use Rattle.memory.proofs.model.Calls.{Order, Said, Ledger, unchanged, after, Good, Does, loads_now, loads_later, stores_now, stores_clearing, stores_later, delivers_it, delivers_none, first_ledger, first_kit}
+use Rattle.memory.proofs.model.Kit.{asked, clears, Seat, Board, Kit, none_below, invalidates, Told, becomes, opened_seat, op_load, op_store, op_of, Equality}
+use Rattle.memory.proofs.model.Calls.{Order, Said, Ledger, after, Good, Does, loads_now, loads_later, stores_now, stores_clearing, stores_later, delivers_it, delivers_none}
 use Rattle.memory.proofs.kept.PageKept.{step_kept}
-use Rattle.memory.proofs.kept.Start.{start_inv}
-use Rattle.memory.proofs.kept.Called.{ask_told, clear_told, now_told}
+use Rattle.memory.proofs.kept.CallsTold.{ask_told, clear_told, now_told}
 use Rattle.memory.proofs.kept.Roots.{own}
-use Rattle.memory.proofs.kept.NoDeadlock.{stuck}
-use Rattle.memory.proofs.kept.Histories.{Kept, left_of, delivered}
-use Rattle.memory.proofs.kept.Calls.{free_is, undeferred, home_is, entry_is, opened_kept, requests_self}
-
-requests_app : {W : Type 0} (x : ℕ) (xs ys : List (Mail W)) → requests x (xs ++ ys) ≡ requests x xs + requests x ys
-requests_app x [] ys = omega arith
-requests_app x (m ∷ xs) ys = omega (arith, requests_app x xs ys)
-
-pub invalidates_ask : {W : Type 0} (m a x : ℕ) (c : Boards) (ms : List (Mail W)) → ms ≡ invalidates m a c → requests x ms ≡ 0
-invalidates_ask {W} m a x c ms e = ap (requests x) e ∙ go m
-  where
-    go : (m : ℕ) → requests x (invalidates {W = W} m a c) ≡ 0
-    go zero = refl
-    go (suc m) = grind (arith, go m, requests_app x (invalidates {W = W} m a c) (cond (has c m) (invalidate a m ∷ []) []))
-
-module _ {W : Type 0} (same : Mail W → Mail W → Bool) (law : Equality same) where
-  -- nothing flies: every journey is silent
-  silent_all : (n : ℕ) (j : ℕ → Journey W) → ((x : Mail W) → flies same j x ≡ false) → (y : ℕ) (t : Journey W) → j y ≡ t → silent n t ≡ true
-  silent_all n j h y home e = refl
-  silent_all n j h y (asking k u g) e = absurd (let a = h (request k u y g) in let b = law.self (request k u y g) in grind (arith, facts))
-  silent_all n j h y (queued k u g) e = refl
-  silent_all n j h y (copied s g w) e = absurd (let a = h (copy s y g w) in let b = law.self (copy s y g w) in grind (arith, facts))
-  silent_all n j h y (granted s g c w) e = absurd (let a = h (grant s y g c w) in let b = law.self (grant s y g c w) in grind (arith, facts))
-  silent_all n j h y (clearing g m) e = all_below_all n (λ x. quiet_mark (m x)) (λ x l. by_mark x (m x) refl)
-    where
-      by_mark : (x : ℕ) (z : Mark) → m x ≡ z → quiet_mark (m x) ≡ true
-      by_mark x unmarked is = ap quiet_mark is
-      by_mark x sent is = absurd (let a = h (invalidate y x) in let b = law.self (invalidate y x) in grind (arith, facts))
-      by_mark x deferred is = ap quiet_mark is
-      by_mark x acked is = absurd (let a = h (acknowledge x y) in let b = law.self (acknowledge x y) in grind (arith, facts))
-
--- an event that changes nothing
-pub nothing_new : {W : Type 0} {same : Mail W → Mail W → Bool} {n : ℕ} {l : Ledger W} {k : Kit W} → Kept same n l k → Kept same n (unchanged l []) k
-nothing_new {l = l} i = record { pages = i.pages; told = i.told; each = i.each; opens = i.opens; passed = λ x on. omega (arith, i.passed x on); light = i.light; bound = λ x. omega (arith, i.bound x) }
-
-pub stage_cases : (s : Stage) → (s ≡ closed) ⊎ (s ≡ closed → ⊥)
-stage_cases closed = inl refl
-stage_cases (asked k) = inr (λ e. grind arith)
-stage_cases (clears h) = inr (λ e. grind arith)
-
-pub not_closed_busy : {W : Type 0} (j : Journey W) (s : Stage) → stage_of j ≡ s → (s ≡ closed → ⊥) → busy j ≡ true
-not_closed_busy j s e ne = grind arith
-
-pub open_here : {W : Type 0} (s : Seat W) → open_on s s.page ≡ s.stage
-open_here s = grind (arith, facts)
+use Rattle.memory.proofs.kept.DeliveryKept.{delivered}
+use Rattle.memory.proofs.kept.AccessOpens.{free_is, undeferred, home_is, entry_is, opened_kept, requests_self}
 
 module _ {W : Type 0} {same : Mail W → Mail W → Bool} {n : ℕ} {l : Ledger W} {k : Kit W} (law : Equality same) (i : Kept same n l k) where
-  -- where nothing waits on the link nothing is open
-  pub quiet_none : k.link ≡ no_mail → (x : ℕ) → l.opens x ≡ absent
-  quiet_none e x = elim (stage_cases (k.board x).seat.stage) [
-    | inl c ↦ i.opens x ∙ ap (λ z. op_by z (k.board x).seat.page (k.board x).seat.act) c
-    | inr ne ↦ absurd (
-        let p = (k.board x).seat.page in
-        let inv = i.each p in
-        let b : busy ((i.pages p).journey x) ≡ true = not_closed_busy ((i.pages p).journey x) (k.board x).seat.stage (i.told.stages x p ∙ open_here (k.board x).seat) ne in
-        let none_fly : (m : Mail W) → flies same (i.pages p).journey m ≡ false = λ m. no_bit (flies same (i.pages p).journey m) (sym (i.told.mails p m) ∙ ap (times same p m) e) in
-        stuck n (l.memory p) (i.pages p) inv (λ y _. silent_all same law n (i.pages p).journey none_fly y ((i.pages p).journey y) refl) x (inv.core.ways.askers x b).in_range b)
-  ]
-    where
-      no_bit : (c : Bool) → bit c ≡ 0 → c ≡ false
-      no_bit c e = grind arith
-
   copies_in : (b p : ℕ) → b < n → (e : (i.pages p).journey b ≡ home) → ((i.pages p).entry b).hint ≡ b → (y : ℕ) → has ((i.pages p).entry b).copies y ≡ true → y < n
   copies_in b p lt e q y c =
       let inv = i.each p in
@@ -172,21 +116,4 @@ module _ {W : Type 0} {same : Mail W → Mail W → Bool} {n : ℕ} {l : Ledger 
         tt,
       )
   does_kept (delivers_it p m rest r e is) = let d = delivered law i p m rest e r is in (d.0, d.1)
-  does_kept (delivers_none e) = (nothing_new i, quiet_none e)
-
--- a kit just started
-pub start_kept : {W : Type 0} (same : Mail W → Mail W → Bool) (n : ℕ) (idle : W) (v : ℕ → W) → 0 < n → Kept same n (first_ledger v) (first_kit idle v)
-start_kept same n idle v l = record {
-  pages = λ p. first_page idle (v p);
-  told = record { entries = λ x p. refl; stages = λ x p. grind (arith, facts); awaiting = λ x y. refl; waitings = λ x p. grind (arith, facts); deferrals = λ x. refl; mails = λ p x. refl };
-  each = λ p. start_inv n idle (v p) l;
-  opens = λ x. refl;
-  passed = λ x e. absurd (both_ways false refl e);
-  light = λ p x. omega arith;
-  bound = λ x. omega arith;
-}
-
--- and nothing is left to do
-pub start_left : {W : Type 0} (same : Mail W → Mail W → Bool) (n : ℕ) (idle : W) (v : ℕ → W) (l : 0 < n) → left_of (start_kept same n idle v l) ≡ 0
-unfolding start_kept
-start_left same n idle v l = sum_zero n (λ x. 0) (λ x. refl)
+  does_kept (delivers_none e) = (nothing_new i, quiet_none law i e)

@@ -1,14 +1,17 @@
+-- A delivery keeps what is kept of a kit, is answered rightly and takes from the work that is left.
+use Rattle.memory.proofs.kept.KitKept.{Kept, left_of, opens_changed}
+use Rattle.memory.proofs.kept.Stages.{closed_home, open_is_busy, busy_is_open, op_not_closed, open_here, off_page}
 use Rattle.memory.proofs.kept.Sums.{upd_self_at, sum_less, upd_same, upd_other, upd_both}
 use Rattle.std.proofs.Common.{◌≡◌, ℕ, ◌+◌, ◌-◌, ◌*◌, ◌<◌, ◌≤◌, Bool, true, false, ◌⊎◌, List, sym, refl, ap, ◌∙◌, subst, inl, inr, arith}
 use Rattle.std.proofs.lemmas.Bool.{cases_eq, cases_Bool}
 use Rattle.memory.proofs.kept.Sets.{facts}
 use Rattle.memory.proofs.model.Sums.{upd, sum_to}
 use Rattle.memory.proofs.model.Board.{load, store, Entry, Mail}
-use Rattle.memory.proofs.model.Page.{Journey, home, asking, queued, copied, granted, clearing, Page, busy, far}
+use Rattle.memory.proofs.model.Page.{Page, busy, far}
 use Rattle.memory.proofs.model.Steps.{Answer, nothing, read_at, written_at, Delivery, delivers}
 use Rattle.memory.proofs.model.Invariant.{Inv}
 use Rattle.wire.specs.Bags.{Bag, ◌&◌}
-use Rattle.memory.proofs.model.Kit.{Maybe, absent, just, Stage, closed, asked, clears, Seat, Board, Post, Kit, Reply, open_on, to, stage_of, Told, becomes, arrives, requests, Open, op_load, op_store, op_by, op_of, Equality}
+use Rattle.memory.proofs.model.Kit.{absent, just, Stage, closed, asked, clears, Seat, Board, Post, Kit, Reply, open_on, to, stage_of, Told, becomes, arrives, requests, Open, op_load, op_store, op_by, op_of, Equality}
 use Rattle.memory.proofs.model.Weights.{weight, Falls}
 use Rattle.memory.proofs.model.Calls.{call_deliver, Ledger, stored, after, Good, said_of, said_by, posts_by, kit_by}
 use Rattle.memory.proofs.kept.PageKept.{step_kept}
@@ -16,35 +19,9 @@ use Rattle.memory.proofs.kept.WorkFalls.{delivery_falls}
 use Rattle.memory.proofs.kept.Sims.{Tale}
 use Rattle.memory.proofs.kept.Delivered.{deliver_sim}
 
--- what is kept of a kit and its history
-pub record Kept {W : Type 0} (same : Mail W → Mail W → Bool) (n : ℕ) (l : Ledger W) (k : Kit W) : Type 0 where
-  pub pages : ℕ → Page W
-  pub told : Told same k pages
-  pub each : (p : ℕ) → Inv n (l.memory p) (pages p)
-  pub opens : (x : ℕ) → l.opens x ≡ op_of (k.board x).seat
-  pub passed : (x : ℕ) → busy ((pages (k.board x).seat.page).journey x) ≡ true → l.passed x ≡ far ((pages (k.board x).seat.page).journey x)
-  pub light : (p x : ℕ) → weight n ((pages p).journey x) ≤ 3 * n - 4
-  pub bound : (x : ℕ) → l.passed x ≤ n - 2
-
--- what is left to do
-abbrev pub left_of : {W : Type 0} {same : Mail W → Mail W → Bool} {n : ℕ} {l : Ledger W} {k : Kit W} → Kept same n l k → ℕ
-left_of {n = n} {k = k} i = sum_to n (λ x. weight n ((i.pages (k.board x).seat.page).journey x))
-
 -- a stage stays open unless the access ends
 stays_open : {W : Type 0} (s z : Stage) (p r : ℕ) (f g : W → W) → (op_by s p f ≡ op_by z r g) ⊎ (op_by s p f ≡ absent) → (s ≡ closed → ⊥) → z ≡ closed → ⊥
 stays_open s z p r f g h ne e = grind arith
-
-closed_idle : {W : Type 0} (j : Journey W) → stage_of j ≡ closed → busy j ≡ false
-closed_idle j e = grind arith
-
-busy_open : {W : Type 0} (j : Journey W) (s : Stage) → stage_of j ≡ s → (s ≡ closed → ⊥) → busy j ≡ true
-busy_open j s e ne = grind arith
-
-open_busy : {W : Type 0} (j : Journey W) (s : Stage) → stage_of j ≡ s → busy j ≡ true → s ≡ closed → ⊥
-open_busy j s e b c = grind arith
-
-off_page : {W : Type 0} (s : Seat W) (p : ℕ) → (s.page ≡ p → ⊥) → open_on s p ≡ closed
-off_page s p ne = grind (arith, facts)
 
 module _ {W : Type 0} {same : Mail W → Mail W → Bool} {k : Kit W} {pages : ℕ → Page W} (t : Told same k pages) (b p : ℕ) (s : Seat W) (e : Entry W) (ms : List (Mail W)) (q : Page W) (rest : Bag (Post W)) (u : Told same (becomes k b p s e ms rest) (upd pages p q)) (s_page : s.page ≡ (k.board b).seat.page) where
   abbrev new : ℕ → Board W
@@ -57,8 +34,8 @@ module _ {W : Type 0} {same : Mail W → Mail W → Bool} {k : Kit W} {pages : �
   was_open : (op_of s ≡ op_of (k.board b).seat) ⊎ (op_of s ≡ absent) → (x : ℕ) → busy (q.journey x) ≡ true → busy ((pages p).journey x) ≡ true
   was_open ops x on =
       let after_is : stage_of (q.journey x) ≡ open_on (new x).seat p = ap (λ (g : Page W). stage_of (g.journey x)) (sym (upd_same pages p q)) ∙ u.stages x p in
-      let now = open_busy (q.journey x) (open_on (new x).seat p) after_is on in
-      let before = busy_open ((pages p).journey x) (open_on (k.board x).seat p) (t.stages x p) in
+      let now = busy_is_open (q.journey x) (open_on (new x).seat p) after_is on in
+      let before = open_is_busy ((pages p).journey x) (open_on (k.board x).seat p) (t.stages x p) in
       before (λ c. elim (cases_eq x b) [
         | inl w ↦ at_b c w now
         | inr w ↦ now (ap (λ (g : Board W). open_on g.seat p) (upd_other k.board b (record { seat = s; entry = upd (k.board b).entry p e }) x w) ∙ c)
@@ -79,7 +56,7 @@ module _ {W : Type 0} {same : Mail W → Mail W → Bool} {k : Kit W} {pages : �
       let after_is : stage_of (q.journey x) ≡ open_on (new x).seat p = ap (λ (g : Page W). stage_of (g.journey x)) (sym (upd_same pages p q)) ∙ u.stages x p in
       let same_is = page_same x in
       let off : open_on (new x).seat p ≡ closed = off_page (new x).seat p (λ z. ne (sym same_is ∙ z)) in
-      closed_idle (q.journey x) (after_is ∙ off)
+      ap busy (closed_home (q.journey x) (after_is ∙ off))
 
   -- the hops of who is open on after a delivery
   passed_after : (l : ℕ → ℕ) → ((x : ℕ) → busy ((pages (k.board x).seat.page).journey x) ≡ true → l x ≡ far ((pages (k.board x).seat.page).journey x))
@@ -108,12 +85,6 @@ module _ {W : Type 0} {same : Mail W → Mail W → Bool} {k : Kit W} {pages : �
     ]
   ]
 
-  opens_after : (l : ℕ → Maybe (Open W)) → ((x : ℕ) → l x ≡ op_of (k.board x).seat) → (x : ℕ) → upd l b (op_of s) x ≡ op_of (new x).seat
-  opens_after l is x = elim (cases_eq x b) [
-    | inl w ↦ (ap (upd l b (op_of s)) w ∙ upd_same l b (op_of s)) ∙ sym (ap (λ (g : Board W). op_of g.seat) (ap new w ∙ upd_same k.board b (record { seat = s; entry = upd (k.board b).entry p e })))
-    | inr w ↦ upd_other l b (op_of s) x w ∙ is x ∙ sym (ap (λ (g : Board W). op_of g.seat) (upd_other k.board b (record { seat = s; entry = upd (k.board b).entry p e }) x w))
-  ]
-
 page_of_op : {W : Type 0} (st : Stage) (p : ℕ) (f : W → W) (r : ℕ) → (op_by st p f ≡ just (op_load r)) ⊎ ((g : W → W) × (op_by st p f ≡ just (op_store r g))) → p ≡ r
 page_of_op closed p f r (inl h) = absurd (grind arith)
 page_of_op (asked load) p f r (inl h) = cc
@@ -123,12 +94,6 @@ page_of_op closed p f r (inr h) = let z = h.1 in absurd (grind arith)
 page_of_op (asked load) p f r (inr h) = let z = h.1 in absurd (grind arith)
 page_of_op (asked store) p f r (inr h) = let z = h.1 in cc
 page_of_op (clears g) p f r (inr h) = let z = h.1 in cc
-
-op_not_closed : {W : Type 0} (st : Stage) (p : ℕ) (f : W → W) (o : Open W) → op_by st p f ≡ just o → st ≡ closed → ⊥
-op_not_closed st p f o e c = grind arith
-
-open_here : {W : Type 0} (s : Seat W) (p : ℕ) → s.page ≡ p → open_on s p ≡ s.stage
-open_here s p e = grind (arith, facts)
 
 -- a delivery
 module _ {W : Type 0} {same : Mail W → Mail W → Bool} {n : ℕ} {l : Ledger W} {k : Kit W} (law : Equality same) (i : Kept same n l k) (p : ℕ) (m : Mail W) (rest : Bag (Post W)) where
@@ -153,14 +118,6 @@ module _ {W : Type 0} {same : Mail W → Mail W → Bool} {n : ℕ} {l : Ledger 
   abbrev Goal : Seat W → Entry W → List (Mail W) → Answer W → Type 0
   Goal s e ms d = (z : Kept same n (after l call_deliver (said_of d) ms) (becomes k b p s e ms rest)) × Good n l call_deliver (said_of d) ms × (left_of z < left_of i)
 
-  heavy_open : (j : Journey W) {a : ℕ} → stage_of j ≡ closed → a < weight n j → ⊥
-  heavy_open home e lt = omega arith
-  heavy_open (asking k u h) e lt = grind arith
-  heavy_open (queued k u h) e lt = grind arith
-  heavy_open (copied f h w) e lt = grind arith
-  heavy_open (granted f h c w) e lt = grind arith
-  heavy_open (clearing h m) e lt = grind arith
-
   -- who finished was open on this page
   here_of : (o : Open W) (r : ℕ) → op_of old ≡ just o → (o ≡ op_load r) ⊎ ((f : W → W) × (o ≡ op_store r f)) → old.page ≡ r
   here_of o r e (inl h) = page_of_op old.stage old.page old.act r (inl (e ∙ ap just h))
@@ -170,7 +127,7 @@ module _ {W : Type 0} {same : Mail W → Mail W → Bool} {n : ℕ} {l : Ledger 
   passed_at : (a : ℕ) (o : Open W) → old.page ≡ p → a ≡ b → op_of old ≡ just o → l.passed a ≡ far (P.journey a)
   passed_at a o pg ab op =
       let on : open_on old p ≡ old.stage = open_here old p pg in
-      let bz : busy ((i.pages p).journey b) ≡ true = busy_open (P.journey b) (open_on old p) (i.told.stages b p) (λ z. op_not_closed old.stage old.page old.act o op (sym on ∙ z)) in
+      let bz : busy ((i.pages p).journey b) ≡ true = open_is_busy (P.journey b) (open_on old p) (i.told.stages b p) (λ z. op_not_closed old.stage old.page old.act o op (sym on ∙ z)) in
       let is : l.passed b ≡ far (P.journey b) = rw pg at (i.passed b) bz in
       rw ab is
 
@@ -184,7 +141,7 @@ module _ {W : Type 0} {same : Mail W → Mail W → Bool} {n : ℕ} {l : Ledger 
       let old_weight = λ (x : ℕ). weight n ((i.pages (k.board x).seat.page).journey x) in
       let is : (x : ℕ) → new_weight x ≡ weight n ((upd i.pages p q (k.board x).seat.page).journey x) = λ x. ap (λ r. weight n ((upd i.pages p q r).journey x)) (page_same i.told b p s e ms q rest u sp x) in
       let le : (x : ℕ) → weight n ((upd i.pages p q (k.board x).seat.page).journey x) ≤ old_weight x = λ x. upd_both (λ r g. weight n (g.journey x) ≤ weight n ((i.pages r).journey x)) i.pages p q (k.board x).seat.page (f.never x) (λ _. omega arith) in
-      let here : (k.board w).seat.page ≡ p = elim (cases_eq (k.board w).seat.page p) [ inl h ↦ h | inr h ↦ absurd (heavy_open (P.journey w) (i.told.stages w p ∙ off_page (k.board w).seat p h) f.lighter) ] in
+      let here : (k.board w).seat.page ≡ p = elim (cases_eq (k.board w).seat.page p) [ inl h ↦ h | inr h ↦ let z = ap (weight n) (closed_home (P.journey w) (i.told.stages w p ∙ off_page (k.board w).seat p h)) in absurd (omega (arith, z, f.lighter)) ] in
       let at_w : upd i.pages p q (k.board w).seat.page ≡ q = ap (upd i.pages p q) here ∙ upd_same i.pages p q in
       let less : new_weight w < old_weight w = omega (arith, is w, ap (λ (g : Page W). weight n (g.journey w)) at_w, f.lighter, ap (λ r. weight n ((i.pages r).journey w)) here) in
       sum_less n w old_weight new_weight (λ x. omega (arith, is x, le x)) f.who_in less
@@ -198,7 +155,7 @@ module _ {W : Type 0} {same : Mail W → Mail W → Bool} {n : ℕ} {l : Ledger 
           pages = upd i.pages p q;
           told = u;
           each = each;
-          opens = λ x. sym (upd_self_at l.opens b (op_of s) (tale ∙ sym (i.opens b)) x) ∙ opens_after i.told b p s e ms q rest u sp l.opens i.opens x;
+          opens = λ x. sym (upd_self_at l.opens b (op_of s) (tale ∙ sym (i.opens b)) x) ∙ opens_changed k b (record { seat = s; entry = upd (k.board b).entry p e }) l.opens (op_of s) refl i.opens x;
           passed = passed;
           light = light_after q (delivery_falls (i.each p) mv);
           bound = bound_after i.told b p s e ms q rest u sp n l.memory l.passed i.bound each passed calm;
@@ -217,7 +174,7 @@ module _ {W : Type 0} {same : Mail W → Mail W → Bool} {n : ℕ} {l : Ledger 
           pages = upd i.pages p q;
           told = u;
           each = rw mem_is each;
-          opens = λ x. ap (λ z. upd l.opens z absent x) tale.0 ∙ ap (λ z. upd l.opens b z x) (sym tale.2) ∙ opens_after i.told b p s e ms q rest u sp l.opens i.opens x;
+          opens = λ x. ap (λ z. upd l.opens z absent x) tale.0 ∙ ap (λ z. upd l.opens b z x) (sym tale.2) ∙ opens_changed k b (record { seat = s; entry = upd (k.board b).entry p e }) l.opens (op_of s) refl i.opens x;
           passed = passed;
           light = light_after q (delivery_falls (i.each p) mv);
           bound = bound_after i.told b p s e ms q rest u sp n l.memory l.passed i.bound each passed calm;
@@ -237,7 +194,7 @@ module _ {W : Type 0} {same : Mail W → Mail W → Bool} {n : ℕ} {l : Ledger 
           pages = upd i.pages p q;
           told = u;
           each = rw mem_is each;
-          opens = λ x. ap (λ z. upd l.opens z absent x) tale.0 ∙ ap (λ z. upd l.opens b z x) (sym tale.2) ∙ opens_after i.told b p s e ms q rest u sp l.opens i.opens x;
+          opens = λ x. ap (λ z. upd l.opens z absent x) tale.0 ∙ ap (λ z. upd l.opens b z x) (sym tale.2) ∙ opens_changed k b (record { seat = s; entry = upd (k.board b).entry p e }) l.opens (op_of s) refl i.opens x;
           passed = passed;
           light = light_after q (delivery_falls (i.each p) mv);
           bound = bound_after i.told b p s e ms q rest u sp n memory l.passed i.bound each passed calm;

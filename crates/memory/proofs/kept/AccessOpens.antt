@@ -1,3 +1,5 @@
+-- An access that opens keeps what is kept of a kit.
+use Rattle.memory.proofs.kept.KitKept.{opens_changed, Kept}
 use Rattle.std.proofs.Common.{◌≡◌, ℕ, ◌+◌, ◌-◌, ◌*◌, ◌<◌, ◌≤◌, Bool, true, false, List, [], ◌∷◌, sym, refl, ap, ◌∙◌, inl, inr, arith}
 use Rattle.std.proofs.lemmas.Bool.{cases_eq}
 use Rattle.memory.proofs.kept.Sets.{facts}
@@ -6,20 +8,13 @@ use Rattle.memory.proofs.model.Board.{Kind, Entry, Mail, request}
 use Rattle.memory.proofs.model.Page.{deferred, Journey, home, Page, busy, far, loading, mark}
 use Rattle.memory.proofs.model.Steps.{goes, Call, opens}
 use Rattle.memory.proofs.model.Invariant.{Inv}
-use Rattle.memory.proofs.model.Kit.{Maybe, just, Stage, closed, Board, Kit, Told, becomes, opened_seat, requests, Open, op_by, op_of, Equality}
+use Rattle.memory.proofs.model.Kit.{just, Stage, closed, Board, Kit, Told, becomes, opened_seat, requests, Open, op_by, Equality}
 use Rattle.memory.proofs.model.Weights.{weight}
 use Rattle.memory.proofs.model.Calls.{Ledger, more_passed, opening}
 use Rattle.memory.proofs.kept.Sums.{upd_same, upd_other, upd_both}
 use Rattle.memory.proofs.kept.PageKept.{step_kept}
 use Rattle.memory.proofs.kept.WorkFalls.{call_opens}
-use Rattle.memory.proofs.kept.Called.{idle}
-use Rattle.memory.proofs.kept.Histories.{Kept}
-
-opens_new : {W : Type 0} (k : Kit W) (b : ℕ) (z : Board W) (l : ℕ → Maybe (Open W)) (o : Maybe (Open W)) → op_of z.seat ≡ o → ((x : ℕ) → l x ≡ op_of (k.board x).seat) → (x : ℕ) → upd l b o x ≡ op_of (upd k.board b z x).seat
-opens_new k b z l o e is x = elim (cases_eq x b) [
-  | inl w ↦ ap (upd l b o) w ∙ upd_same l b o ∙ sym e ∙ sym (ap (λ (g : Board _). op_of g.seat) (ap (upd k.board b z) w ∙ upd_same k.board b z))
-  | inr w ↦ upd_other l b o x w ∙ is x ∙ sym (ap (λ (g : Board _). op_of g.seat) (upd_other k.board b z x w))
-]
+use Rattle.memory.proofs.kept.CallsTold.{idle}
 
 pub requests_self : {W : Type 0} (d : Kind) (t b x : ℕ) (ms : List (Mail W)) → ms ≡ request d t b 0 ∷ [] → (requests b ms - 1 ≡ 0) × ((x ≡ b → ⊥) → requests x ms ≡ 0)
 requests_self d t b x ms e = (grind (arith, facts, ap (requests b) e), λ ne. grind (arith, facts, ap (requests x) e))
@@ -50,7 +45,7 @@ module _ {W : Type 0} {same : Mail W → Mail W → Bool} {n : ℕ} {l : Ledger 
         pages = upd i.pages p (goes P b j);
         told = u;
         each = λ r. upd_both (λ r g. Inv n (l.memory r) g) i.pages p (goes P b j) r inv (λ _. i.each r);
-        opens = opens_new k b z l.opens (just o) op i.opens;
+        opens = opens_changed k b z l.opens (just o) op i.opens;
         passed = λ x. elim (cases_eq x b) [
           | inl q ↦ let s : upd k.board b z x ≡ z = ap (upd k.board b z) q ∙ upd_same k.board b z in
               let t : upd i.pages p (goes P b j) p ≡ goes P b j = upd_same i.pages p (goes P b j) in

@@ -1,3 +1,4 @@
+-- A call on a board with nothing open, whose kit is told by its pages before: it is after.
 use Rattle.std.proofs.Common.{◌≡◌, ℕ, ◌+◌, ◌<◌, Bool, true, false, List, [], ◌∷◌, ap, arith}
 use Rattle.memory.proofs.model.Sets.{has}
 use Rattle.memory.proofs.kept.Sets.{facts}
