@@ -26,7 +26,7 @@ use Rattle.memory.proofs.kept.KitKept.{Kept}
 use Rattle.memory.proofs.kept.Roots.{own}
 use Rattle.memory.proofs.kept.EqualMessages.{same_mail, same_law}
 use Rattle.memory.proofs.kept.Sets.{facts}
-use Rattle.memory.proofs.kept.Sims.{Sim}
+use Rattle.memory.proofs.kept.DeliverySteps.{Sim}
 use Rattle.memory.proofs.kept.Following.{reach_fixed}
 use Rattle.memory.proofs.model.Board as model
 use Rattle.memory.proofs.model.Calls.{Ledger}

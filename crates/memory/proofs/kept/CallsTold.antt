@@ -8,7 +8,7 @@ use Rattle.memory.proofs.model.Page.{deferred, home, asking, clearing, Page, bus
 use Rattle.memory.proofs.model.Steps.{goes, stored_at}
 use Rattle.memory.proofs.model.Kit.{absent, just, closed, asked, clears, Kit, invalidates, slot, deferral_of, flies, times, Told, post_all, becomes, opened_seat, Equality}
 use Rattle.memory.proofs.kept.Messages.{listed, times_post, invalidates_listed}
-use Rattle.memory.proofs.kept.Sims.{replace}
+use Rattle.memory.proofs.kept.DeliverySteps.{replace}
 
 module _ {W : Type 0} (same : Mail W → Mail W → Bool) (law : Equality same) (n : ℕ) (k : Kit W) (pages : ℕ → Page W) (t : Told same k pages) (b p : ℕ) (shut : (k.board b).seat.stage ≡ closed) (free : (r : ℕ) → busy ((pages r).journey b) ≡ false → (pages r).waits b ≡ []) (undeferred : mark (pages p) b ≡ deferred → loading ((pages p).journey b) ≡ true) where
   abbrev P : Page W

@@ -16,7 +16,7 @@ use Rattle.memory.proofs.model.Weights.{weight, Falls}
 use Rattle.memory.proofs.model.Calls.{call_deliver, Ledger, stored, after, Good, said_of, said_by, posts_by, kit_by}
 use Rattle.memory.proofs.kept.PageKept.{step_kept}
 use Rattle.memory.proofs.kept.WorkFalls.{delivery_falls}
-use Rattle.memory.proofs.kept.Sims.{Tale}
+use Rattle.memory.proofs.kept.DeliverySteps.{Tale}
 use Rattle.memory.proofs.kept.Delivered.{deliver_sim}
 
 -- a stage stays open unless the access ends

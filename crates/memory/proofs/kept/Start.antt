@@ -4,7 +4,7 @@ use Rattle.std.proofs.Common.{◌≡◌, ℕ, ◌<◌, Bool, false, refl, arith}
 use Rattle.std.proofs.lemmas.Bool.{both_ways}
 use Rattle.memory.proofs.kept.Sets.{facts}
 use Rattle.memory.proofs.model.Board.{Mail}
-use Rattle.memory.proofs.model.Page.{start as first_page, start}
+use Rattle.memory.proofs.model.Page.{start}
 use Rattle.memory.proofs.model.Calls.{first_ledger, first_kit}
 use Rattle.memory.proofs.kept.KitKept.{Kept, left_of}
 use Rattle.memory.proofs.kept.HintTree.{first_inv}
@@ -26,7 +26,7 @@ start_inv n idle v l = record {
 -- a kit just started
 pub start_kept : {W : Type 0} (same : Mail W → Mail W → Bool) (n : ℕ) (idle : W) (v : ℕ → W) → 0 < n → Kept same n (first_ledger v) (first_kit idle v)
 start_kept same n idle v l = record {
-  pages = λ p. first_page idle (v p);
+  pages = λ p. start idle (v p);
   told = record { entries = λ x p. refl; stages = λ x p. grind (arith, facts); awaiting = λ x y. refl; waitings = λ x p. grind (arith, facts); deferrals = λ x. refl; mails = λ p x. refl };
   each = λ p. start_inv n idle (v p) l;
   opens = λ x. refl;

@@ -1,11 +1,12 @@
-use Rattle.std.proofs.Common.{◌≡◌, ℕ, ◌+◌, Bool, true, false, List, [], refl, ap, arith}
+-- What it is for the delivery of a message to be a step of its page.
+use Rattle.memory.proofs.model.Kit.{stage_of, Maybe, absent, just, Stage, Seat, Post, Kit, replies, arrive, to, mail_of, is_it, flies, times, Told, post_all, becomes, arrives, requests, op_load, op_store, op_of, Equality}
+use Rattle.std.proofs.Common.{◌≡◌, ℕ, ◌+◌, Bool, true, false, List, ap, arith}
 use Rattle.memory.proofs.kept.Sets.{facts}
 use Rattle.memory.proofs.model.Sums.{upd, bit}
-use Rattle.memory.proofs.model.Board.{Kind, Entry, Mail, request}
-use Rattle.memory.proofs.model.Page.{Journey, asking, queued, Page, busy, far}
-use Rattle.memory.proofs.model.Steps.{joined, joins, Answer, nothing, read_at, written_at, Delivery, moves}
+use Rattle.memory.proofs.model.Board.{Entry, Mail}
+use Rattle.memory.proofs.model.Page.{Journey, Page, busy, far}
+use Rattle.memory.proofs.model.Steps.{Answer, nothing, read_at, written_at, Delivery}
 use Rattle.wire.specs.Bags.{Bag, ◌&◌}
-use Rattle.memory.proofs.model.Kit.{Maybe, absent, just, Stage, closed, asked, clears, Seat, Post, Kit, replies, open_on, with_waiting, arrive, to, mail_of, is_it, flies, times, Told, post_all, becomes, arrives, requests, op_load, op_store, op_of, Equality}
 use Rattle.memory.proofs.kept.Messages.{listed, cell_change, times_post}
 
 -- what a delivery tells of the open access of its board b, before and after, and of the hops
@@ -13,6 +14,10 @@ abbrev pub Tale : {W : Type 0} → Answer W → Seat W → Seat W → ℕ → �
 Tale nothing s t b p g ms = op_of t ≡ op_of s
 Tale (read_at a h w) s t b p g ms = (a ≡ b) × (op_of s ≡ just (op_load p)) × (op_of t ≡ absent) × (h ≡ far (g.journey a)) × (requests a ms ≡ 0)
 Tale (written_at a h f) s t b p g ms = (a ≡ b) × (op_of s ≡ just (op_store p f)) × (op_of t ≡ absent) × (h ≡ far (g.journey a)) × (requests a ms ≡ 0)
+
+-- p's message m is one of those that wait
+abbrev pub Takes : {W : Type 0} → Kit W → ℕ → Mail W → Bag (Post W) → Type 0
+Takes k p m rest = k.link ≡ record { page = p; mail = m } & rest
 
 -- what a message does to a kit that its pages tell, as a step of its page
 pub record Sim {W : Type 0} (same : Mail W → Mail W → Bool) (n : ℕ) (k : Kit W) (pages : ℕ → Page W) (p : ℕ) (m : Mail W) (rest : Bag (Post W)) : Type 0 where
@@ -43,35 +48,11 @@ module _ {W : Type 0} (same : Mail W → Mail W → Bool) (law : Equality same) 
       let d = net x in
       grind (arith, facts)
 
-  arrive_busy : (u a h : ℕ) (d : Kind) (s : Seat W) (e : Entry W) (st : Stage) → (st ≡ closed → ⊥) → arrive n u s e (request d u a h) st ≡ replies (with_waiting s (record { asker = a; kind = d; hops = h })) e [] nothing
-  arrive_busy u a h d s e closed ne = absurd (ne refl)
-  arrive_busy u a h d s e (asked j) ne = refl
-  arrive_busy u a h d s e (clears g) ne = refl
+module _ {W : Type 0} {same : Mail W → Mail W → Bool} {k : Kit W} {pages : ℕ → Page W} (t : Told same k pages) where
+  -- what the board sees is what the page says
+  pub arrives_is : (n p : ℕ) (m : Mail W) (st : Stage) → stage_of ((pages p).journey (to m)) ≡ st → arrives n k p m ≡ arrive n (to m) (k.board (to m)).seat ((pages p).entry (to m)) m st
+  arrives_is n p m st e = let a = t.entries (to m) p in let b = t.stages (to m) p in cc
 
-  pub join_sim : (a u h : ℕ) (d : Kind) → k.link ≡ record { page = p; mail = request d u a h } & rest → (pages p).journey a ≡ asking d u h → busy ((pages p).journey u) ≡ true → Sim same n k pages p (request d u a h) rest
-  join_sim a u h d e at b =
-      let s = (k.board u).seat in
-      let st = t.stages u p in
-      let on : open_on s p ≡ closed → ⊥ = λ q. grind (arith, facts) in
-      let here_is : p ≡ s.page = grind (arith, facts) in
-      record {
-        seat = with_waiting s (record { asker = a; kind = d; hops = h });
-        entry = (k.board u).entry p;
-        posts = [];
-        answer = nothing;
-        page = joined (pages p) a u d h;
-        replied = arrive_busy u a h d s ((k.board u).entry p) (open_on s p) on;
-        moved = moves (joins a u h d at b);
-        same_page = refl;
-        tale = refl;
-        hops = λ x _. grind (arith, facts);
-        calm = λ x _. refl;
-        told = record {
-          entries = λ x r. grind (arith, facts, t.entries x r);
-          stages = λ x r. grind (arith, facts, t.stages x r);
-          awaiting = λ x y. grind (arith, facts, t.awaiting x y);
-          waitings = λ x r. grind (arith, facts, t.waitings x r);
-          deferrals = λ x. grind (arith, facts, t.deferrals x);
-          mails = mails_after (request d u a h) [] (joined (pages p) a u d h) e (replace same law (pages p).journey (upd (pages p).journey a (queued d u h)) a a (just (request d u a h)) absent (grind (arith, facts)) (grind (arith, facts)) (λ b y ne. grind (arith, facts)));
-        };
-      }
+  -- who has an access open on the page has it there alone
+  pub here_is : (p b : ℕ) → busy ((pages p).journey b) ≡ true → p ≡ (k.board b).seat.page
+  here_is p b e = grind (arith, facts, t.stages b p)

@@ -1,4 +1,5 @@
-use Rattle.std.proofs.Common.{◌≡◌, ℕ, ◌+◌, Bool, false, List, [], ◌∷◌, refl, ap, ◌∙◌, inl, inr, arith}
+-- A board of a kit serves a request, or its whole waiting list, as its page does.
+use Rattle.std.proofs.Common.{◌≡◌, ℕ, ◌+◌, Bool, true, false, List, [], ◌∷◌, refl, ap, ◌∙◌, inl, inr, arith}
 use Rattle.std.proofs.lemmas.Bool.{cases_eq}
 use Rattle.memory.proofs.model.Sets.{put}
 use Rattle.memory.proofs.kept.Sets.{facts}
@@ -13,7 +14,7 @@ use Rattle.memory.proofs.kept.Messages.{listed}
 use Rattle.memory.proofs.kept.Requests.{owner as owner_root}
 use Rattle.memory.proofs.kept.ServedLists.{serves_one}
 use Rattle.memory.proofs.kept.Waiting.{popped, others_told}
-use Rattle.memory.proofs.kept.Sims.{replace}
+use Rattle.memory.proofs.kept.DeliverySteps.{replace}
 use Rattle.memory.proofs.kept.Sums.{upd_same}
 
 -- what serving at u changes: u's entry and the messages; the stages, the marks and the deferrals stay
@@ -27,6 +28,15 @@ pub record Changes {W : Type 0} (same : Mail W → Mail W → Bool) (p q : Page 
 
 pub changes_calm : {W : Type 0} {same : Mail W → Mail W → Bool} {p q : Page W} {u : ℕ} {e : Entry W} {old : Maybe (Mail W)} {ms : List (Mail W)} → Changes same p q u e old ms → (x : ℕ) → busy (q.journey x) ≡ false → requests x ms ≡ 0
 changes_calm c x off = let z = c.hops x in grind arith
+
+-- who has finished asks no more, and the others go on
+pub done_asks : {W : Type 0} {same : Mail W → Mail W → Bool} {p q : Page W} {u : ℕ} {e : Entry W} {old : Maybe (Mail W)} {ms : List (Mail W)} → Changes same p q u e old ms → p.journey u ≡ home → requests u ms ≡ 0
+done_asks {u = u} c home_is = let s = c.stage u in let h = c.hops u in grind arith
+
+pub done_hops : {W : Type 0} {same : Mail W → Mail W → Bool} (g : Page W) {p q : Page W} {u : ℕ} {e : Entry W} {old : Maybe (Mail W)} {ms : List (Mail W)} → Changes same p q u e old ms → p.journey u ≡ home → ((y : ℕ) → (y ≡ u → ⊥) → far (p.journey y) ≡ far (g.journey y)) → (x : ℕ) → busy (q.journey x) ≡ true → far (q.journey x) ≡ far (g.journey x) + requests x ms
+done_hops g {u = u} c home_is others x on =
+    let ne : x ≡ u → ⊥ = λ s. let z = c.stage u in grind arith in
+    omega (arith, c.hops x, others x ne)
 
 module _ {W : Type 0} (same : Mail W → Mail W → Bool) (law : Equality same) (n : ℕ) (v : W) (p : Page W) (i : Core n v p) (u : ℕ) (r : Req) (ws : ℕ → List Req) (e : p.journey u ≡ home) (at : At (p.journey r.asker) r.kind u r.hops) (rest : (w b : ℕ) → occ b (ws w) ≡ bit (queued_at w (upd p.journey r.asker home b))) (stays : (w : ℕ) → All (λ (r : Req). p.journey r.asker ≡ queued r.kind w r.hops) (ws w)) where
   abbrev a : ℕ
