@@ -1,4 +1,5 @@
 -- A kit that refuses every call keeps one memory, and is not willing.
+use Rattle.std.proofs.lemmas.Option.{none-some}
 use Rattle.std.proofs.Common.{◌≡◌, ℕ, ◌-◌, ◌*◌, ◌<◌, [], ◌∷◌, ◌++◌, Some, None, refl, ◌∙◌, sym, subst, arith}
 use Rattle.std.proofs.lemmas.Bool.{lt-ltb}
 use Rattle.wire.specs.Faults.{number}
@@ -56,9 +57,6 @@ refusing_is_one_memory n first history a = record {
       (idle first (before ++ deliveries) (all_before (before ++ deliveries) later (subst AllRefused told a))).nothing_open;
 }
 
-some_is_none : {X : Type 0} (x : X) → Some x ≡ None → ⊥
-some_is_none x h = cc
-
 -- where nothing is open, the questions of a board and an address of the kit are answered yes
 not_refused : (n p board address : ℕ) (l : Ledger) → Idle l → board < n → address < 16 * p → first_no (questions_of n p l board address) ≡ None
 not_refused n p board address l i b a = rw (lt-ltb board n b, lt-ltb address (16 * p) a, i.nothing_open board) refl
@@ -66,8 +64,8 @@ not_refused n p board address l i b a = rw (lt-ltb board n b, lt-ltb address (16
 pub refusing_is_not_willing : RefusingIsNotWilling
 refusing_is_not_willing = record {
   load = λ n p board address fault first before later all b a w.
-      some_is_none (number fault) ((w before _ later refl).asked ∙ not_refused n p board address (ledger first before) (idle first before all) b a);
+      none-some (number fault) (sym ((w before _ later refl).asked ∙ not_refused n p board address (ledger first before) (idle first before all) b a));
   store = λ n p board address word fault first before later all b a w.
-      some_is_none (number fault) ((w before _ later refl).asked ∙ not_refused n p board address (ledger first before) (idle first before all) b a);
-  delivery = λ n p pick fault first before later w. some_is_none (number fault) (w before _ later refl).asked;
+      none-some (number fault) (sym ((w before _ later refl).asked ∙ not_refused n p board address (ledger first before) (idle first before all) b a));
+  delivery = λ n p pick fault first before later w. none-some (number fault) (sym (w before _ later refl).asked);
 }

@@ -1,4 +1,5 @@
 -- Wrong histories are told.
+use Rattle.std.proofs.lemmas.Option.{none-some}
 use Rattle.std.proofs.Common.{◌≡◌, ℕ, ◌-◌, [], ◌∷◌, ◌++◌, Some, None, refl, ap, ◌∙◌, sym, subst, append_assoc, arith}
 use Rattle.std.proofs.lemmas.Bool.Decides.{nat_tests}
 use Rattle.memory.specs.declared.call.Call.TheVariants.{Load, Store}
@@ -8,9 +9,6 @@ use Rattle.memory.specs.OneMemory.{OneMemory, Right}
 use Rattle.memory.specs.Placements.{Words}
 use Rattle.memory.proofs.Entering.{last_entered}
 use Rattle.memory.specs.WrongHistories.{WordsAreTold, OpeningsAreTold, FinishesAreTold, AnswersAreTold, BoundsAreTold, WrongHistoriesAreTold, at_once, finishing}
-
-some_is_none : {X : Type 0} (x : X) → Some x ≡ None → ⊥
-some_is_none x h = cc
 
 the_same : {X : Type 0} (x y : X) → Some x ≡ Some y → x ≡ y
 the_same x y h = cc
@@ -34,13 +32,13 @@ module _ (first : Words) (before : History) where
 
   openings : OpeningsAreTold first before
   openings = record {
-    load_over = λ board address access posted was n later m. some_is_none access (sym was ∙ (next n _ later m).answer);
-    store_over = λ board address word access posted was n later m. some_is_none access (sym was ∙ (next n _ later m).answer);
+    load_over = λ board address access posted was n later m. none-some access (sym (sym was ∙ (next n _ later m).answer));
+    store_over = λ board address word access posted was n later m. none-some access (sym (sym was ∙ (next n _ later m).answer));
   }
 
   finishes : FinishesAreTold first before
   finishes = record {
-    none_open = λ pick f posted was n later m. let r = (next n (finishing pick f posted) later m).answer in some_is_none r.access (sym r.was_open ∙ was);
+    none_open = λ pick f posted was n later m. let r = (next n (finishing pick f posted) later m).answer in none-some r.access (sym (sym r.was_open ∙ was));
     other_kind = λ pick f access posted was wrong n later m.
         let r = (next n (finishing pick f posted) later m).answer in wrong (r.same_kind ∙ ap kind_of (the_same r.access access (sym r.was_open ∙ was)));
     other_address = λ pick f access posted was wrong n later m.
@@ -50,7 +48,7 @@ module _ (first : Words) (before : History) where
     other_hops = λ pick f posted wrong n later m. wrong (next n (finishing pick f posted) later m).answer.times_passed;
     finished_twice = λ pick next f posted later_posted n later m.
         let r = (second n (finishing pick f posted) (finishing next f later_posted) later m).answer in
-        some_is_none r.access (sym r.was_open ∙ grind (arith, nat_tests));
+        none-some r.access (sym (sym r.was_open ∙ grind (arith, nat_tests)));
     old_word = λ storer address newer pick f posted later_posted was wrong n later m.
         let r = (second n (at_once (Store storer address newer) newer posted) (finishing pick f later_posted) later m).answer in
         let same : r.access ≡ load address = the_same r.access (load address) (sym r.was_open ∙ was) in
@@ -69,7 +67,7 @@ module _ (first : Words) (before : History) where
   bounds : BoundsAreTold first before
   bounds = record {
     passed_too_often = λ n board e later many m. omega (arith, (next n e later m).passes board, many);
-    still_open = λ n board access deliveries later only enough was m. some_is_none access (sym was ∙ m.in_time before deliveries later refl only enough board);
+    still_open = λ n board access deliveries later only enough was m. none-some access (sym (sym was ∙ m.in_time before deliveries later refl only enough board));
   }
 
 pub wrong_histories_are_told : WrongHistoriesAreTold

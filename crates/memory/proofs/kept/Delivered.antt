@@ -26,9 +26,6 @@ module _ {W : Type 0} (same : Mail W → Mail W → Bool) (law : Equality same) 
   abbrev P : Page W
   P = pages p
 
-  abbrev o : Holders n (pages p)
-  o = i.core.holders
-
   -- which journey a message belongs to
   pub request_is : (d : Kind) (u a h : ℕ) (g : Journey W) → mail_of a g a ≡ just (request d u a h) → g ≡ asking d u h
   request_is d u a h g e = grind (arith, facts)

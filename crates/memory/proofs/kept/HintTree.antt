@@ -1,4 +1,5 @@
 -- A call, a request that is passed on or granted, and an access that ends keep the tree of hints and the trail of each request.
+use Rattle.std.proofs.lemmas.Bool.{false_from_ne_true}
 use Rattle.std.proofs.Common.{◌≡◌, ℕ, ◌+◌, ◌<◌, ◌≤◌, Bool, true, false, sym, refl, ap, ◌∙◌, inl, inr, arith}
 use Rattle.std.proofs.lemmas.Bool.{cases_eq, cases_Bool, both_ways}
 use Rattle.std.proofs.lemmas.Bool.Decides.{nat_tests}
@@ -10,14 +11,11 @@ use Rattle.memory.proofs.kept.Following.{reach_fixed, keeps, keeps_root, comes, 
 pub turned : (f : ℕ → ℕ) (a u v : ℕ) → f a ≡ u → (u ≡ a → ⊥) → Turned f (upd (upd f a v) u a) a u v
 turned f a u v e ne = record { was = e; a_now = grind (arith, nat_tests); u_now = grind (arith, nat_tests); rest = λ x p q. grind (arith, nat_tests) }
 
-not_true : (b : Bool) → (b ≡ true → ⊥) → b ≡ false
-not_true b h = grind (arith, cases_Bool b)
-
 -- the place of a request is neither its asker nor a board that passed it on: there is room for two more
 pub bound_of : {n : ℕ} {f : ℕ → ℕ} {a h r : ℕ} → f r ≡ r → (a ≡ r → ⊥) → Reach f r a → a < n → f a < n → Trail n f a h → h + 2 ≤ n
 bound_of {n} {f} {a} fix ne top l k t =
     let apart : (a ≡ f a) → ⊥ = λ e. ne (reach_fixed (sym e) top) in
-    let new : t.seen (f a) ≡ false = not_true (t.seen (f a)) (λ e. no_cycle fix ne refl top (t.below (f a) e)) in
+    let new : t.seen (f a) ≡ false = false_from_ne_true (t.seen (f a)) (λ e. no_cycle fix ne refl top (t.below (f a) e)) in
     omega (arith, count_room n a (f a) t.seen l k apart t.other new, t.many)
 
 asker_on : {n : ℕ} {f g : ℕ → ℕ} {a h : ℕ} → ((x : ℕ) → Reach f a x → Reach g a x) → Asker n f a h → Asker n g a h
@@ -37,7 +35,7 @@ fresh {n} = record { seen = λ _. false; many = sum_zero n (λ x. 0) (λ x. refl
 trail_more : {n : ℕ} {f g : ℕ → ℕ} {a u v h : ℕ} → Turned f g a u v → f u ≡ v → (u ≡ a → ⊥) → u < n → (Reach f a u → ⊥) → Trail n f a h → Trail n g a (h + 1)
 trail_more {n} {g = g} {a = a} {u = u} t at_u ne l out k = record {
   seen = upd k.seen u true;
-  many = omega (arith, count_more n u k.seen l (not_true (k.seen u) (λ e. out (k.below u e))), k.many);
+  many = omega (arith, count_more n u k.seen l (false_from_ne_true (k.seen u) (λ e. out (k.below u e))), k.many);
   other = upd_other k.seen u true a (λ e. ne (sym e)) ∙ k.other;
   below = λ x e. elim (cases_eq x u) [
     | inl p ↦ step {y = a} (ap g p ∙ t.u_now) (here refl)

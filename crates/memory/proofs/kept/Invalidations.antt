@@ -22,7 +22,6 @@ module _ {W : Type 0} (n : ℕ) (v : W) (p : Page W) (i : Core n v p) where
         holders = record {
           settled = grind (arith, facts);
           only = grind (arith, facts);
-          mine = grind (arith, facts);
           exact = λ y. grind (arith, facts, o.exact y);
           awaited = λ _. (x, grind (arith, facts));
           marked = λ y. grind (arith, facts, o.marked y);
@@ -46,7 +45,6 @@ module _ {W : Type 0} (n : ℕ) (v : W) (p : Page W) (i : Core n v p) where
         holders = record {
           settled = grind (arith, facts);
           only = grind (arith, facts);
-          mine = grind (arith, facts);
           exact = λ y. grind (arith, facts, o.exact y);
           awaited = λ _. (x, grind (arith, facts));
           marked = λ y. grind (arith, facts, o.marked y);
@@ -70,7 +68,6 @@ module _ {W : Type 0} (n : ℕ) (v : W) (p : Page W) (i : Core n v p) where
         holders = record {
           settled = grind (arith, facts);
           only = grind (arith, facts);
-          mine = grind (arith, facts);
           exact = λ y. grind (arith, facts, o.exact y);
           awaited = λ _. (y, grind (arith, facts));
           marked = λ y. grind (arith, facts, o.marked y);

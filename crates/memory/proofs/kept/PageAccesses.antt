@@ -47,7 +47,6 @@ module _ {W : Type 0} (n : ℕ) (v : W) (p : Page W) (i : Core n v p) where
         holders = record {
           settled = grind (arith, facts);
           only = grind (arith, facts);
-          mine = grind (arith, facts);
           exact = grind (arith, facts);
           awaited = λ _. (y, grind (arith, facts));
           marked = grind (arith, facts);

@@ -133,8 +133,8 @@ module _ {W : Type 0} where
         let r = no_access n v p i.core a e is in
         let k = i.core.ways.root_in in
         let two : 2 ≤ n = omega arith in
-        record { who = a; was = e; now = grind (arith, facts); others = λ x. grind (arith, facts) }
-    call_opens (ask_store a l e is) = record { who = a; was = e; now = grind (arith, facts); others = λ x. grind (arith, facts) }
+        record { who = a; now = grind (arith, facts); others = λ x. grind (arith, facts) }
+    call_opens (ask_store a l e is) = record { who = a; now = grind (arith, facts); others = λ x. grind (arith, facts) }
     call_opens (clear a y l e q c) =
         let r = own n v p i.core a l e q in
         let lacks : has (p.entry a).copies a ≡ false = grind (arith, facts, o.exact a) in
@@ -142,4 +142,4 @@ module _ {W : Type 0} where
         let two : 2 ≤ n = grind (arith, facts) in
         let room = count_room_one n a (has (p.entry a).copies) l lacks in
         let k = heft_marks n (p.entry a).copies in
-        record { who = a; was = e; now = grind (arith, facts); others = λ x. grind (arith, facts) }
+        record { who = a; now = grind (arith, facts); others = λ x. grind (arith, facts) }

@@ -11,7 +11,6 @@ module _ {W : Type 0} where
   pub record Holders (n : ℕ) (p : Page W) : Type 0 where
     pub settled : (busy (p.journey p.root) ≡ rooted (p.journey p.root))
     pub only : (x : ℕ) → rooted (p.journey x) ≡ true → x ≡ p.root
-    pub mine : is_clearing (p.journey p.root) ≡ true → (p.entry p.root).hint ≡ p.root
     pub exact : (x : ℕ) → cover p x ≡ holder p x
     pub awaited : is_clearing (p.journey p.root) ≡ true → (y : ℕ) × (awaits (mark p y) ≡ true)
     pub marked : (x : ℕ) → awaits (mark p x) ≡ true → x < n

@@ -30,6 +30,5 @@ module _ {W : Type 0} where
   -- one journey is new, and the others weigh what they did
   pub record Opens (n : ℕ) (p q : Page W) : Type 0 where
     pub who : ℕ
-    pub was : p.journey who ≡ home
     pub now : weight n (q.journey who) ≤ 3 * n - 4
     pub others : (x : ℕ) → (x ≢ who) → q.journey x ≡ p.journey x
