@@ -1,4 +1,5 @@
 -- Whatever the steps of a kit carry is carried along its histories, and so each of them is one memory, and that of a willing kit.
+use Rattle.memory.proofs.Entering.{ledger_push}
 use Rattle.std.proofs.Common.{◌≡◌, ℕ, ◌-◌, ◌*◌, ◌≤◌, [], ◌∷◌, ◌++◌, length, sym, refl, ap, subst, inl, inr, arith}
 use Rattle.std.proofs.lemmas.List.{length_push}
 use Rattle.memory.specs.Calls.{Running, Does}
@@ -20,13 +21,6 @@ pub record Carries (n p most each : ℕ) (first : Words) (start : Running) (Kept
   pub goes_on : (l : Ledger) (s t : Running) (w : ℕ) (e : Event) → Kept l s w → Does s e t → (v : ℕ) × Kept (entered l e) t v × (IsDelivery e.call → v ≤ w - 1)
   pub bounded : (l : Ledger) (s : Running) (w : ℕ) → Kept l s w → w ≤ each * open_accesses n l
   pub rests : (l : Ledger) (s : Running) → Kept l s 0 → NothingOpen l
-
-entering_push : (l : Ledger) (h : History) (e : Event) → entering l (h ++ e ∷ []) ≡ entered (entering l h) e
-entering_push l [] e = refl
-entering_push l (d ∷ h) e = entering_push (entered l d) h e
-
-pub ledger_push : (first : Words) (h : History) (e : Event) → ledger first (h ++ e ∷ []) ≡ entered (ledger first h) e
-ledger_push first h e = entering_push (fresh first) h e
 
 only_push : (h : History) (e : Event) → OnlyDeliveries (h ++ e ∷ []) → OnlyDeliveries h × IsDelivery e.call
 only_push [] e only = (tt, only.0)

@@ -9,14 +9,14 @@ use Rattle.memory.specs.Placements.{array}
 use Rattle.memory.specs.Promises.{IsOneMemoryWithin}
 use Rattle.memory.specs.Witnesses.{kept, PassedOn, TakesAll, OfSomeHistory, PassedOnIsSharp, DeliveriesAreSharp}
 use Rattle.memory.proofs.Chains as chain
-use Rattle.memory.proofs.Entering.{last_entered}
+use Rattle.memory.proofs.Entering.{ledger_push}
 use Rattle.memory.proofs.Playing.{history}
 use Rattle.memory.proofs.Witnesses.{desk, may_begin, possible, waiting, waits, takes_all}
 
 passed_within : (n most each times : ℕ) (h : History) → PassedOn times h → OneMemoryWithin n most each (array []) h → times ≤ most
 passed_within n most each times h p m =
     let passes = (m.right p.before p.finish [] p.told).passes p.finished.board in
-    let same = ap kept p.told ∙ last_entered (fresh (array [])) p.before p.finish in
+    let same = ap kept p.told ∙ ledger_push (array []) p.before p.finish in
     let count = sym p.passed ∙ ap (λ l. passed_on l p.finished.board) same in
     omega (arith, passes, count)
 

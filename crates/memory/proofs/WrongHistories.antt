@@ -7,7 +7,7 @@ use Rattle.memory.specs.Histories.{Event, History, load, kind_of, address_of}
 use Rattle.memory.specs.Ledgers.{brought, entered, ledger, fresh}
 use Rattle.memory.specs.OneMemory.{OneMemory, Right}
 use Rattle.memory.specs.Placements.{Words}
-use Rattle.memory.proofs.Entering.{last_entered}
+use Rattle.memory.proofs.Entering.{ledger_push}
 use Rattle.memory.specs.WrongHistories.{WordsAreTold, OpeningsAreTold, FinishesAreTold, AnswersAreTold, BoundsAreTold, WrongHistoriesAreTold, at_once, finishing}
 
 the_same : {X : Type 0} (x y : X) → Some x ≡ Some y → x ≡ y
@@ -20,7 +20,7 @@ module _ (first : Words) (before : History) where
 
   second : (n : ℕ) (d e : Event) (later : History) → OneMemory n first (before ++ d ∷ e ∷ later) → Right (n - 2) (entered (ledger first before) d) e
   second n d e later m =
-      subst (λ l. Right (n - 2) l e) (last_entered (fresh first) before d) (m.right (before ++ d ∷ []) e later (sym (append_assoc before (d ∷ []) (e ∷ later))))
+      subst (λ l. Right (n - 2) l e) (ledger_push first before d) (m.right (before ++ d ∷ []) e later (sym (append_assoc before (d ∷ []) (e ∷ later))))
 
   words : WordsAreTold first before
   words = record {
