@@ -11,6 +11,10 @@ none_true (suc n) c e y l = elim (cases_Bool (c n)) [
   | inr h ↦ elim (cases_eq y n) [ inl q ↦ ap c q ∙ h | inr q ↦ none_true n c (grind arith) y (omega arith) ]
 ]
 
+-- the same of all numbers, where those that pass are below n
+pub none_anywhere : (n : ℕ) (c : ℕ → Bool) → ((y : ℕ) → c y ≡ true → y < n) → none_below n c ≡ true → (y : ℕ) → c y ≡ false
+none_anywhere n c inside e y = elim (cases_Bool (c y)) [ inl q ↦ none_true n c e y (inside y q) | inr q ↦ q ]
+
 pub none_false : (n : ℕ) (c : ℕ → Bool) → none_below n c ≡ false → (y : ℕ) × (y < n) × (c y ≡ true)
 none_false zero c e = absurd (both_ways true e refl)
 none_false (suc n) c e = elim (cases_Bool (c n)) [

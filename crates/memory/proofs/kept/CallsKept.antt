@@ -1,8 +1,9 @@
 -- A call on a kit keeps what is kept of it, and is answered rightly.
+use Rattle.memory.proofs.kept.Below.{none_anywhere, none_true, none_false}
+use Rattle.memory.proofs.kept.CopySets.{copies_in}
 use Rattle.memory.proofs.kept.NothingWaits.{quiet_none}
 use Rattle.memory.proofs.kept.Messages.{invalidates_ask}
 use Rattle.memory.proofs.kept.KitKept.{Kept, nothing_new}
-use Rattle.memory.proofs.kept.Below.{none_true, none_false}
 use Rattle.memory.proofs.kept.Sums.{upd_self_at, upd_same, upd_other, upd_both}
 use Rattle.std.proofs.Common.{◌≡◌, ℕ, ◌<◌, Bool, true, false, ◌⊎◌, List, [], ◌∷◌, sym, refl, ap, ◌∙◌, subst, inl, inr, arith}
 use Rattle.std.proofs.lemmas.Bool.{cases_eq, cases_Bool}
@@ -21,17 +22,8 @@ use Rattle.memory.proofs.kept.DeliveryKept.{delivered}
 use Rattle.memory.proofs.kept.AccessOpens.{free_is, undeferred, home_is, entry_is, opened_kept, requests_self}
 
 module _ {W : Type 0} {same : Mail W → Mail W → Bool} {n : ℕ} {l : Ledger W} {k : Kit W} (law : Equality same) (i : Kept same n l k) where
-  copies_in : (b p : ℕ) → b < n → (e : (i.pages p).journey b ≡ home) → ((i.pages p).entry b).hint ≡ b → (y : ℕ) → has ((i.pages p).entry b).copies y ≡ true → y < n
-  copies_in b p lt e q y c =
-      let inv = i.each p in
-      let r = own n (l.memory p) (i.pages p) inv.core b lt e q in
-      let ex = inv.core.holders.exact y in
-      let ins = inv.core.tables.inside y in
-      let ask = inv.core.ways.askers y in
-      held (i.pages p) b y r e c ex ins (λ z. (ask z).in_range)
-    where
-      held : (P : Page W) (b y : ℕ) → b ≡ P.root → P.journey b ≡ home → has (P.entry b).copies y ≡ true → cover P y ≡ holder P y → (is_none (P.entry y).access ≡ false → y < n) → (busy (P.journey y) ≡ true → y < n) → y < n
-      held P b y r e c ex ins ask = grind (arith, facts)
+  copies_below : (b p : ℕ) → b < n → (i.pages p).journey b ≡ home → ((i.pages p).entry b).hint ≡ b → (y : ℕ) → has ((i.pages p).entry b).copies y ≡ true → y < n
+  copies_below b p lt e q y c = (copies_in (i.each p).core b (own n (l.memory p) (i.pages p) (i.each p).core b lt e q) e y c).0
 
   may_do : (b p : ℕ) → b < n → (i.pages p).journey b ≡ home → (k.board b).entry p ≡ (i.pages p).entry b → (((k.board b).entry p).access ≡ write) ⊎ ((((k.board b).entry p).hint ≡ b) × (is_none ((k.board b).entry p).access ≡ false) × (none_below n (has ((k.board b).entry p).copies) ≡ true)) → MayStore (i.pages p) b
   may_do b p lt h t (inl w) = inl (ap (λ (z : Entry W). z.access) (sym t) ∙ w)
@@ -41,10 +33,7 @@ module _ {W : Type 0} {same : Mail W → Mail W → Bool} {n : ℕ} {l : Ledger 
       inr (
         q',
         ap (λ (z : Entry W). is_none z.access) (sym t) ∙ a,
-        λ y. elim (cases_Bool (has ((i.pages p).entry b).copies y)) [
-          | inl d ↦ none_true n (has ((i.pages p).entry b).copies) c' y (copies_in b p lt h q' y d)
-          | inr d ↦ d
-        ],
+        none_anywhere n (has ((i.pages p).entry b).copies) (copies_below b p lt h q') c',
       )
 
   pub does_kept : {c : Order W} {s : Said W} {ms : List (Mail W)} {j : Kit W} → Does n k c s ms j → Kept same n (after l c s ms) j × Good n l c s ms
@@ -81,7 +70,7 @@ module _ {W : Type 0} {same : Mail W → Mail W → Bool} {n : ℕ} {l : Ledger 
       let y = none_false n (has ((k.board b).entry p).copies) more in
       let y_in : has ((i.pages p).entry b).copies y.0 ≡ true = ap (λ (z : Entry W). has z.copies y.0) (sym t) ∙ y.2 in
       let goal_page = goes (i.pages p) b (clearing 0 (marks ((i.pages p).entry b).copies)) in
-      let told = clear_told same law n k i.pages i.told b p shut (free_is law i b p lt shut) (undeferred law i b p lt shut) f (copies_in b p lt h q) in
+      let told = clear_told same law n k i.pages i.told b p shut (free_is law i b p lt shut) (undeferred law i b p lt shut) f (copies_below b p lt h q) in
       let told' = subst (λ (z : Entry W). Told same (becomes k b p (opened_seat p (clears 0) f (has z.copies)) ((k.board b).entry p) (invalidates n b z.copies) k.link) (upd i.pages p goal_page)) (sym t) told in (
         opened_kept law i b p lt shut (op_store p f) (clears 0) f (has ((k.board b).entry p).copies) ((k.board b).entry p) ms (clearing 0 (marks ((i.pages p).entry b).copies)) refl
             (subst (λ z. Told same (becomes k b p (opened_seat p (clears 0) f (has ((k.board b).entry p).copies)) ((k.board b).entry p) z k.link) (upd i.pages p goal_page)) (sym e) told')

@@ -1,7 +1,6 @@
 -- A call, a request that is passed on or granted, and an access that ends keep the tree of hints and the trail of each request.
-use Rattle.std.proofs.lemmas.Bool.{false_from_ne_true}
+use Rattle.std.proofs.lemmas.Bool.{false_from_ne_true, cases_eq, cases_Bool, both_ways}
 use Rattle.std.proofs.Common.{◌≡◌, ℕ, ◌+◌, ◌<◌, ◌≤◌, Bool, true, false, sym, refl, ap, ◌∙◌, inl, inr, arith}
-use Rattle.std.proofs.lemmas.Bool.{cases_eq, cases_Bool, both_ways}
 use Rattle.std.proofs.lemmas.Bool.Decides.{nat_tests}
 use Rattle.memory.proofs.model.Sums.{upd}
 use Rattle.memory.proofs.model.Tree.{Reach, here, step, Turned, State, Trail, Asker, Inv, opened, passed_on, granted, closed, first}

@@ -1,4 +1,5 @@
 -- A grant with copies out sends invalidations; an invalidation arrives, and waits or is done; an acknowledgement arrives that is not the last.
+use Rattle.memory.proofs.kept.CopySets.{granted_in}
 use Rattle.memory.proofs.kept.Messages.{invalidates_ask, not_owner, not_slot, invalidates_listed}
 use Rattle.memory.proofs.kept.Below.{none_false}
 use Rattle.std.proofs.Common.{◌≡◌, ℕ, ◌<◌, Bool, true, false, [], ◌∷◌, refl, ap, ◌∙◌, arith}
@@ -26,7 +27,7 @@ module _ {W : Type 0} (same : Mail W → Mail W → Bool) (law : Equality same) 
       let root = o.only a (ap rooted at) in
       let here = here_is t p a (grind arith) in
       let y = none_false n (has c) more in
-      let held : (x : ℕ) → has c x ≡ true → x < n = λ x is. let g = i.core.ways.askers x in grind (arith, facts, o.exact x, i.core.tables.inside x) in
+      let held : (x : ℕ) → has c x ≡ true → x < n = λ x is. (granted_in i.core a f h c w at x is).0 in
       record {
         seat = with_awaited (k.board a).seat h (has c);
         entry = got_grant a c w;

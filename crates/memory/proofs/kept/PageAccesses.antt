@@ -1,4 +1,5 @@
 -- A board asks for a page, clears the copies of it, or stores in it: what is kept of the page stays so.
+use Rattle.memory.proofs.kept.CopySets.{copies_in}
 use Rattle.std.proofs.Common.{◌≡◌, ℕ, ◌<◌, true, false, ◌⊎◌, sym, refl, ap, subst, arith}
 use Rattle.memory.proofs.model.Sets.{has, nobody}
 use Rattle.memory.proofs.kept.Sets.{facts}
@@ -40,7 +41,7 @@ module _ {W : Type 0} (n : ℕ) (v : W) (p : Page W) (i : Core n v p) where
       let t = i.tables in
       let d = i.words in
       let r = own n v p i a l e q in
-      let held : (x : ℕ) → has (p.entry a).copies x ≡ true → (x < n) × (x ≡ a → ⊥) = λ x c. let g = i.ways.askers x in grind (arith, facts, o.exact x, t.inside x) in
+      let held : (x : ℕ) → has (p.entry a).copies x ≡ true → (x < n) × (x ≡ a → ⊥) = copies_in i a r e in
       let in_y = held y c in
       record {
         ways = subst (tree.Inv n) (sym (clear_view a (marks (p.entry a).copies) e q)) (open_kept a i.ways l (omega arith));

@@ -1,4 +1,5 @@
 -- A copy or a grant comes: what is kept of the page stays so.
+use Rattle.memory.proofs.kept.CopySets.{granted_in}
 use Rattle.std.proofs.Common.{◌≡◌, ℕ, ◌<◌, true, sym, refl, ap, subst, arith}
 use Rattle.memory.proofs.model.Sets.{has, Boards}
 use Rattle.memory.proofs.kept.Sets.{facts}
@@ -58,7 +59,7 @@ module _ {W : Type 0} (n : ℕ) (v : W) (p : Page W) (i : Core n v p) where
       let d = i.words in
       let r : a ≡ p.root = o.only a (ap rooted e) in
       let l = i.ways.root_in in
-      let held : (x : ℕ) → has c x ≡ true → (x < n) × (x ≡ a → ⊥) = λ x c. let g = i.ways.askers x in grind (arith, facts, o.exact x, t.inside x) in
+      let held : (x : ℕ) → has c x ≡ true → (x < n) × (x ≡ a → ⊥) = granted_in i a s h c w e in
       record {
         ways = subst (tree.Inv n) (sym (state_path refl (λ x. grind (arith, facts)) (λ x. grind (arith, facts)) (λ x. grind (arith, facts)))) i.ways;
         holders = record {

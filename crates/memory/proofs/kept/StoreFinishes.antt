@@ -1,5 +1,6 @@
 -- A grant with no copies out, or the last acknowledgement, arrives: either finishes a store.
-use Rattle.memory.proofs.kept.Below.{none_true}
+use Rattle.memory.proofs.kept.Below.{none_anywhere, none_true}
+use Rattle.memory.proofs.kept.CopySets.{granted_in}
 use Rattle.std.proofs.Common.{◌≡◌, ℕ, ◌<◌, Bool, true, false, cond, [], sym, refl, ap, ◌∙◌, inl, inr, arith}
 use Rattle.std.proofs.lemmas.Bool.{cases_eq, cases_Bool}
 use Rattle.memory.proofs.model.Sets.{has, Boards, nobody}
@@ -32,8 +33,8 @@ module _ {W : Type 0} (same : Mail W → Mail W → Bool) (law : Equality same) 
       let root = o.only a (ap rooted at) in
       let act = (k.board a).seat.act in
       let rs = (k.board a).seat.waiting in
-      let held : (x : ℕ) → has c x ≡ true → x < n = λ x is. let g = i.core.ways.askers x in grind (arith, facts, o.exact x, i.core.tables.inside x) in
-      let no : (y : ℕ) → has c y ≡ false = λ y. elim (cases_Bool (has c y)) [ inl q ↦ none_true n (has c) nobody_in y (held y q) | inr q ↦ q ] in
+      let held : (x : ℕ) → has c x ≡ true → x < n = λ x is. (granted_in i.core a f h c w at x is).0 in
+      let no : (y : ℕ) → has c y ≡ false = none_anywhere n (has c) held nobody_in in
       let l : Stores P a h w = grant_free f c at no in
       let q1 = stored_at P a (act w) in
       let ws : q1.waits a ≡ rs = grind (arith, facts, t.waitings a p) in

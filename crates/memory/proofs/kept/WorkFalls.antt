@@ -1,4 +1,5 @@
 -- Each delivery takes from the work that is left on its page, and an access that opens adds no more than its bound.
+use Rattle.memory.proofs.kept.CopySets.{copies_in}
 use Rattle.memory.proofs.kept.Sums.{count_room_one, upd_same, upd_other, sum_one, count_room}
 use Rattle.std.proofs.Common.{◌≡◌, ℕ, zero, suc, ◌+◌, ◌*◌, ◌<◌, ◌≤◌, true, false, List, refl, ap, arith}
 use Rattle.std.proofs.lemmas.Bool.{cases_Bool}
@@ -138,7 +139,7 @@ module _ {W : Type 0} where
     call_opens (clear a y l e q c) =
         let r = own n v p i.core a l e q in
         let lacks : has (p.entry a).copies a ≡ false = grind (arith, facts, o.exact a) in
-        let in_y : y < n = let g = i.core.ways.askers y in grind (arith, facts, o.exact y, i.core.tables.inside y) in
+        let in_y : y < n = (copies_in i.core a r e y c).0 in
         let two : 2 ≤ n = grind (arith, facts) in
         let room = count_room_one n a (has (p.entry a).copies) l lacks in
         let k = heft_marks n (p.entry a).copies in
