@@ -4,7 +4,7 @@ use Rattle.std.proofs.Common.{◌≡◌, ℕ, ◌-◌, ◌*◌, ◌≤◌, [], �
 use Rattle.std.proofs.lemmas.List.{length_push}
 use Rattle.memory.specs.Calls.{Running, Does}
 use Rattle.memory.specs.Histories.{Event, History, IsDelivery, OnlyDeliveries}
-use Rattle.memory.specs.Ledgers.{Ledger, entered, fresh, entering, ledger, open_accesses}
+use Rattle.memory.specs.Ledgers.{Ledger, entered, fresh, ledger, open_accesses}
 use Rattle.memory.specs.OneMemory.{Right, NothingOpen, OneMemoryWithin}
 use Rattle.memory.specs.Placements.{Words}
 use Rattle.memory.specs.Reached.{Reached, started, onward}

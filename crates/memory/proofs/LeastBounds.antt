@@ -3,7 +3,7 @@ use Rattle.std.proofs.Common.{◌≡◌, ℕ, zero, suc, ◌+◌, ◌-◌, ◌*�
 use Rattle.std.proofs.lemmas.Bool.{cases_eq, cases_lt}
 use Rattle.memory.specs.Histories.{History}
 use Rattle.memory.specs.LeastBounds.{PassesThroughAll, AllAreNeeded, BoundsAreLeast}
-use Rattle.memory.specs.Ledgers.{Ledger, fresh, passed_on, open_accesses}
+use Rattle.memory.specs.Ledgers.{Ledger, passed_on, open_accesses}
 use Rattle.memory.specs.OneMemory.{OneMemoryWithin, NothingOpen}
 use Rattle.memory.specs.Placements.{array}
 use Rattle.memory.specs.Promises.{IsOneMemoryWithin}

@@ -1,6 +1,6 @@
 -- A kit that refuses every call keeps one memory, and is not willing.
 use Rattle.std.proofs.lemmas.Option.{none-some}
-use Rattle.std.proofs.Common.{◌≡◌, ℕ, ◌-◌, ◌*◌, ◌<◌, [], ◌∷◌, ◌++◌, Some, None, refl, ◌∙◌, sym, subst, arith}
+use Rattle.std.proofs.Common.{◌≡◌, ℕ, ◌-◌, ◌*◌, ◌<◌, [], ◌∷◌, ◌++◌, None, refl, ◌∙◌, sym, subst, arith}
 use Rattle.std.proofs.lemmas.Bool.{lt-ltb}
 use Rattle.wire.specs.Faults.{number}
 use Rattle.wire.specs.Questions.{first_no}

@@ -1,10 +1,10 @@
 -- Wrong histories are told.
 use Rattle.std.proofs.lemmas.Option.{none-some}
-use Rattle.std.proofs.Common.{◌≡◌, ℕ, ◌-◌, [], ◌∷◌, ◌++◌, Some, None, refl, ap, ◌∙◌, sym, subst, append_assoc, arith}
+use Rattle.std.proofs.Common.{◌≡◌, ℕ, ◌-◌, [], ◌∷◌, ◌++◌, Some, refl, ap, ◌∙◌, sym, subst, append_assoc, arith}
 use Rattle.std.proofs.lemmas.Bool.Decides.{nat_tests}
 use Rattle.memory.specs.declared.call.Call.TheVariants.{Load, Store}
 use Rattle.memory.specs.Histories.{Event, History, load, kind_of, address_of}
-use Rattle.memory.specs.Ledgers.{brought, entered, ledger, fresh}
+use Rattle.memory.specs.Ledgers.{brought, entered, ledger}
 use Rattle.memory.specs.OneMemory.{OneMemory, Right}
 use Rattle.memory.specs.Placements.{Words}
 use Rattle.memory.proofs.Entering.{ledger_push}

@@ -1,25 +1,25 @@
 -- An access that opens keeps what is kept of a kit.
-use Rattle.memory.proofs.kept.KitKept.{opens_changed, Kept}
-use Rattle.std.proofs.Common.{◌≡◌, ℕ, ◌+◌, ◌-◌, ◌*◌, ◌<◌, ◌≤◌, Bool, true, false, List, [], ◌∷◌, sym, refl, ap, ◌∙◌, inl, inr, arith}
+use Rattle.std.proofs.Common.{◌≡◌, ℕ, ◌+◌, ◌-◌, ◌*◌, ◌≤◌, Bool, true, false, List, [], ◌∷◌, sym, refl, ap, ◌∙◌, inl, inr, arith}
 use Rattle.std.proofs.lemmas.Bool.{cases_eq}
-use Rattle.memory.proofs.kept.Sets.{facts}
-use Rattle.memory.proofs.model.Sums.{upd}
 use Rattle.memory.proofs.model.Board.{Kind, Entry, Mail, request}
-use Rattle.memory.proofs.model.Page.{deferred, Journey, home, Page, busy, far, loading, mark}
-use Rattle.memory.proofs.model.Steps.{goes, Call, opens}
+use Rattle.memory.proofs.model.Calls.{Ledger, more_passed, opening}
 use Rattle.memory.proofs.model.Invariant.{Inv}
 use Rattle.memory.proofs.model.Kit.{just, Stage, closed, Board, Kit, Told, becomes, opened_seat, requests, Open, op_by, Equality}
+use Rattle.memory.proofs.model.Page.{deferred, Journey, home, Page, busy, far, loading, mark}
+use Rattle.memory.proofs.model.Steps.{goes, Call, opens}
+use Rattle.memory.proofs.model.Sums.{upd}
 use Rattle.memory.proofs.model.Weights.{weight}
-use Rattle.memory.proofs.model.Calls.{Ledger, more_passed, opening}
-use Rattle.memory.proofs.kept.Sums.{upd_same, upd_other, upd_both}
-use Rattle.memory.proofs.kept.PageKept.{step_kept}
-use Rattle.memory.proofs.kept.WorkFalls.{call_opens}
 use Rattle.memory.proofs.kept.CallsTold.{idle}
+use Rattle.memory.proofs.kept.KitKept.{opens_changed, Kept}
+use Rattle.memory.proofs.kept.PageKept.{step_kept}
+use Rattle.memory.proofs.kept.Sets.{facts}
+use Rattle.memory.proofs.kept.Sums.{upd_same, upd_other, upd_both}
+use Rattle.memory.proofs.kept.WorkFalls.{call_opens}
 
 pub requests_self : {W : Type 0} (d : Kind) (t b x : ℕ) (ms : List (Mail W)) → ms ≡ request d t b 0 ∷ [] → (requests b ms - 1 ≡ 0) × ((x ≡ b → ⊥) → requests x ms ≡ 0)
 requests_self d t b x ms e = (grind (arith, facts, ap (requests b) e), λ ne. grind (arith, facts, ap (requests x) e))
 
-module _ {W : Type 0} {same : Mail W → Mail W → Bool} {n : ℕ} {l : Ledger W} {k : Kit W} (law : Equality same) (i : Kept same n l k) (b p : ℕ) (in_b : b < n) (shut : (k.board b).seat.stage ≡ closed) where
+module _ {W : Type 0} {same : Mail W → Mail W → Bool} {n : ℕ} {l : Ledger W} {k : Kit W} (law : Equality same) (i : Kept same n l k) (b p : ℕ) (shut : (k.board b).seat.stage ≡ closed) where
   abbrev P : Page W
   P = i.pages p
 
@@ -35,7 +35,6 @@ module _ {W : Type 0} {same : Mail W → Mail W → Bool} {n : ℕ} {l : Ledger 
   pub entry_is : (k.board b).entry p ≡ P.entry b
   entry_is = i.told.entries b p
 
-  -- an access opens
   pub opened_kept : (o : Open W) (st : Stage) (f : W → W) (c : ℕ → Bool) (e : Entry W) (ms : List (Mail W)) (j : Journey W) → op_by st p f ≡ just o → Told same (becomes k b p (opened_seat p st f c) e ms k.link) (upd i.pages p (goes P b j)) → Call n P (goes P b j) → far j ≡ 0 → requests b ms - 1 ≡ 0 → ((x : ℕ) → (x ≡ b → ⊥) → requests x ms ≡ 0) → Kept same n (opening l b o ms) (becomes k b p (opened_seat p st f c) e ms k.link)
   opened_kept o st f c e ms j op u call zero_far none_mine none_else =
       let inv = (step_kept (i.each p) {q = goes P b j} (opens call)).0 in

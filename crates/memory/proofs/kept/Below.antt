@@ -1,4 +1,4 @@
--- Tests of the numbers below n: what all pass each of them passes, and what not all pass one of them does not.
+-- Tests of the numbers below n: what holds of each where all pass, and which one fails where not all do.
 use Rattle.std.proofs.Common.{◌≡◌, ℕ, zero, suc, ◌<◌, Bool, true, false, refl, ap, ◌∙◌, inl, inr, arith}
 use Rattle.std.proofs.lemmas.Bool.{cases_eq, cases_Bool, both_ways}
 use Rattle.memory.proofs.model.Kit.{none_below}

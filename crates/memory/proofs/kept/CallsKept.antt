@@ -1,25 +1,24 @@
 -- A call on a kit keeps what is kept of it, and is answered rightly.
-use Rattle.memory.proofs.kept.Below.{none_anywhere, none_true, none_false}
-use Rattle.memory.proofs.kept.CopySets.{copies_in}
-use Rattle.memory.proofs.kept.NothingWaits.{quiet_none}
-use Rattle.memory.proofs.kept.Messages.{invalidates_ask}
-use Rattle.memory.proofs.kept.KitKept.{Kept, nothing_new}
-use Rattle.memory.proofs.kept.Sums.{upd_self_at, upd_same, upd_other, upd_both}
 use Rattle.std.proofs.Common.{◌≡◌, ℕ, ◌<◌, Bool, true, false, ◌⊎◌, List, [], ◌∷◌, sym, refl, ap, ◌∙◌, subst, inl, inr, arith}
-use Rattle.std.proofs.lemmas.Bool.{cases_eq, cases_Bool}
-use Rattle.memory.proofs.model.Sets.{has}
-use Rattle.memory.proofs.kept.Sets.{facts}
-use Rattle.memory.proofs.model.Sums.{upd}
+use Rattle.std.proofs.lemmas.Bool.{cases_eq}
 use Rattle.memory.proofs.model.Board.{write, load, store, Entry, Mail, request, store_entry}
-use Rattle.memory.proofs.model.Page.{home, asking, clearing, Page, is_none, busy, far, cover, holder, marks}
-use Rattle.memory.proofs.model.Steps.{goes, stored_at, ask_load, ask_store, clear, MayStore, store_now}
-use Rattle.memory.proofs.model.Kit.{asked, clears, Seat, Board, Kit, none_below, invalidates, Told, becomes, opened_seat, op_load, op_store, op_of, Equality}
 use Rattle.memory.proofs.model.Calls.{Order, Said, Ledger, after, Good, Does, loads_now, loads_later, stores_now, stores_clearing, stores_later, delivers_it, delivers_none}
-use Rattle.memory.proofs.kept.PageKept.{step_kept}
-use Rattle.memory.proofs.kept.CallsTold.{ask_told, clear_told, now_told}
-use Rattle.memory.proofs.kept.Roots.{own}
-use Rattle.memory.proofs.kept.DeliveryKept.{delivered}
+use Rattle.memory.proofs.model.Kit.{asked, clears, Seat, Board, Kit, none_below, invalidates, Told, becomes, opened_seat, op_load, op_store, op_of, Equality}
+use Rattle.memory.proofs.model.Page.{home, asking, clearing, is_none, busy, far, marks}
+use Rattle.memory.proofs.model.Sets.{has}
+use Rattle.memory.proofs.model.Steps.{goes, stored_at, ask_load, ask_store, clear, MayStore, store_now}
+use Rattle.memory.proofs.model.Sums.{upd}
 use Rattle.memory.proofs.kept.AccessOpens.{free_is, undeferred, home_is, entry_is, opened_kept, requests_self}
+use Rattle.memory.proofs.kept.Below.{none_anywhere, none_false}
+use Rattle.memory.proofs.kept.CallsTold.{ask_told, clear_told, now_told}
+use Rattle.memory.proofs.kept.CopySets.{copies_in}
+use Rattle.memory.proofs.kept.DeliveryKept.{delivered}
+use Rattle.memory.proofs.kept.KitKept.{Kept, nothing_new}
+use Rattle.memory.proofs.kept.Messages.{invalidates_ask}
+use Rattle.memory.proofs.kept.NothingWaits.{quiet_none}
+use Rattle.memory.proofs.kept.PageKept.{step_kept}
+use Rattle.memory.proofs.kept.Roots.{own}
+use Rattle.memory.proofs.kept.Sums.{upd_self_at, upd_same, upd_other, upd_both}
 
 module _ {W : Type 0} {same : Mail W → Mail W → Bool} {n : ℕ} {l : Ledger W} {k : Kit W} (law : Equality same) (i : Kept same n l k) where
   copies_below : (b p : ℕ) → b < n → (i.pages p).journey b ≡ home → ((i.pages p).entry b).hint ≡ b → (y : ℕ) → has ((i.pages p).entry b).copies y ≡ true → y < n
@@ -42,47 +41,47 @@ module _ {W : Type 0} {same : Mail W → Mail W → Bool} {n : ℕ} {l : Ledger 
       let has : is_none ((i.pages p).entry b).access ≡ false = ap (λ (z : Entry W). is_none z.access) (sym t) ∙ a in
       (nothing_new i, ap (λ (z : Entry W). z.words) t ∙ (i.each p).core.words.table b has)
   does_kept (loads_later b p lt shut a ms e) =
-      let t = entry_is law i b p lt shut in
-      let h = home_is law i b p lt shut in
+      let t = entry_is law i b p shut in
+      let h = home_is law i b p shut in
       let e' = e ∙ ap (λ (z : Entry W). request load z.hint b 0 ∷ []) t in
-      let told = ask_told same law n k i.pages i.told b p shut (free_is law i b p lt shut) (undeferred law i b p lt shut) load (λ w. w) in (
-        opened_kept law i b p lt shut (op_load p) (asked load) (λ w. w) (λ _. false) ((k.board b).entry p) ms (asking load ((i.pages p).entry b).hint 0) refl
+      let told = ask_told same law n k i.pages i.told b p shut (free_is law i b p shut) (undeferred law i b p shut) load (λ w. w) in (
+        opened_kept law i b p shut (op_load p) (asked load) (λ w. w) (λ _. false) ((k.board b).entry p) ms (asking load ((i.pages p).entry b).hint 0) refl
             (subst (λ z. Told same (becomes k b p (opened_seat p (asked load) (λ w. w) (λ _. false)) ((k.board b).entry p) z k.link) (upd i.pages p (goes (i.pages p) b (asking load ((i.pages p).entry b).hint 0)))) (sym e') told)
             (ask_load b lt h (ap (λ (z : Entry W). z.access) (sym t) ∙ a))
             refl (requests_self load _ b b ms e).0 (λ x. (requests_self load _ b x ms e).1),
         tt,
       )
   does_kept (stores_later b p f lt shut a ms e) =
-      let t = entry_is law i b p lt shut in
-      let h = home_is law i b p lt shut in
+      let t = entry_is law i b p shut in
+      let h = home_is law i b p shut in
       let e' = e ∙ ap (λ (z : Entry W). request store z.hint b 0 ∷ []) t in
-      let told = ask_told same law n k i.pages i.told b p shut (free_is law i b p lt shut) (undeferred law i b p lt shut) store f in (
-        opened_kept law i b p lt shut (op_store p f) (asked store) f (λ _. false) ((k.board b).entry p) ms (asking store ((i.pages p).entry b).hint 0) refl
+      let told = ask_told same law n k i.pages i.told b p shut (free_is law i b p shut) (undeferred law i b p shut) store f in (
+        opened_kept law i b p shut (op_store p f) (asked store) f (λ _. false) ((k.board b).entry p) ms (asking store ((i.pages p).entry b).hint 0) refl
             (subst (λ z. Told same (becomes k b p (opened_seat p (asked store) f (λ _. false)) ((k.board b).entry p) z k.link) (upd i.pages p (goes (i.pages p) b (asking store ((i.pages p).entry b).hint 0)))) (sym e') told)
             (ask_store b lt h (λ q. a (ap (λ (z : Entry W). z.hint) t ∙ q)))
             refl (requests_self store _ b b ms e).0 (λ x. (requests_self store _ b x ms e).1),
         tt,
       )
   does_kept (stores_clearing b p f lt shut a more ms e) =
-      let t = entry_is law i b p lt shut in
-      let h = home_is law i b p lt shut in
+      let t = entry_is law i b p shut in
+      let h = home_is law i b p shut in
       let q : ((i.pages p).entry b).hint ≡ b = ap (λ (z : Entry W). z.hint) (sym t) ∙ a in
       let y = none_false n (has ((k.board b).entry p).copies) more in
       let y_in : has ((i.pages p).entry b).copies y.0 ≡ true = ap (λ (z : Entry W). has z.copies y.0) (sym t) ∙ y.2 in
       let goal_page = goes (i.pages p) b (clearing 0 (marks ((i.pages p).entry b).copies)) in
-      let told = clear_told same law n k i.pages i.told b p shut (free_is law i b p lt shut) (undeferred law i b p lt shut) f (copies_below b p lt h q) in
+      let told = clear_told same law n k i.pages i.told b p shut (free_is law i b p shut) (undeferred law i b p shut) f (copies_below b p lt h q) in
       let told' = subst (λ (z : Entry W). Told same (becomes k b p (opened_seat p (clears 0) f (has z.copies)) ((k.board b).entry p) (invalidates n b z.copies) k.link) (upd i.pages p goal_page)) (sym t) told in (
-        opened_kept law i b p lt shut (op_store p f) (clears 0) f (has ((k.board b).entry p).copies) ((k.board b).entry p) ms (clearing 0 (marks ((i.pages p).entry b).copies)) refl
+        opened_kept law i b p shut (op_store p f) (clears 0) f (has ((k.board b).entry p).copies) ((k.board b).entry p) ms (clearing 0 (marks ((i.pages p).entry b).copies)) refl
             (subst (λ z. Told same (becomes k b p (opened_seat p (clears 0) f (has ((k.board b).entry p).copies)) ((k.board b).entry p) z k.link) (upd i.pages p goal_page)) (sym e) told')
             (clear b y.0 lt h q y_in)
             refl (omega (arith, invalidates_ask n b b ((k.board b).entry p).copies ms e)) (λ x _. invalidates_ask n b x ((k.board b).entry p).copies ms e),
         tt,
       )
   does_kept (stores_now b p f lt shut may) =
-      let t = entry_is law i b p lt shut in
-      let h = home_is law i b p lt shut in
+      let t = entry_is law i b p shut in
+      let h = home_is law i b p shut in
       let g = stored_at (i.pages p) b (f ((i.pages p).entry b).words) in
-      let told = now_told same law n k i.pages i.told b p shut (free_is law i b p lt shut) (undeferred law i b p lt shut) (f ((i.pages p).entry b).words) in
+      let told = now_told same law n k i.pages i.told b p shut (free_is law i b p shut) (undeferred law i b p shut) (f ((i.pages p).entry b).words) in
       let told' = subst (λ (z : Entry W). Told same (becomes k b p (k.board b).seat (store_entry b (f z.words)) [] k.link) (upd i.pages p g)) (sym t) told in
       let inv = (step_kept (i.each p) {q = g} (store_now b f lt h (may_do b p lt h t may))).0 in
       let still : (r x : ℕ) → (upd i.pages p g r).journey x ≡ (i.pages r).journey x = λ r x. upd_both (λ r z. z.journey x ≡ (i.pages r).journey x) i.pages p g r (upd_self_at (i.pages p).journey b home (sym h) x) (λ _. refl) in

@@ -1,14 +1,14 @@
--- A call on a board with nothing open, whose kit is told by its pages before: it is after.
+-- After a call on a board with nothing open, the kit is told by its pages again.
 use Rattle.std.proofs.Common.{◌≡◌, ℕ, ◌+◌, ◌<◌, Bool, true, false, List, [], ◌∷◌, ap, arith}
-use Rattle.memory.proofs.model.Sets.{has}
-use Rattle.memory.proofs.kept.Sets.{facts}
-use Rattle.memory.proofs.model.Sums.{upd, bit}
 use Rattle.memory.proofs.model.Board.{Kind, Mail, request, store_entry}
-use Rattle.memory.proofs.model.Page.{deferred, home, asking, clearing, Page, busy, loading, mark, marks}
-use Rattle.memory.proofs.model.Steps.{goes, stored_at}
 use Rattle.memory.proofs.model.Kit.{absent, just, closed, asked, clears, Kit, invalidates, slot, deferral_of, flies, times, Told, post_all, becomes, opened_seat, Equality}
-use Rattle.memory.proofs.kept.Messages.{listed, times_post, invalidates_listed}
+use Rattle.memory.proofs.model.Page.{deferred, home, asking, clearing, Page, busy, loading, mark, marks}
+use Rattle.memory.proofs.model.Sets.{has}
+use Rattle.memory.proofs.model.Steps.{goes, stored_at}
+use Rattle.memory.proofs.model.Sums.{upd, bit}
 use Rattle.memory.proofs.kept.DeliverySteps.{replace}
+use Rattle.memory.proofs.kept.Messages.{listed, times_post, invalidates_listed}
+use Rattle.memory.proofs.kept.Sets.{facts}
 
 module _ {W : Type 0} (same : Mail W → Mail W → Bool) (law : Equality same) (n : ℕ) (k : Kit W) (pages : ℕ → Page W) (t : Told same k pages) (b p : ℕ) (shut : (k.board b).seat.stage ≡ closed) (free : (r : ℕ) → busy ((pages r).journey b) ≡ false → (pages r).waits b ≡ []) (undeferred : mark (pages p) b ≡ deferred → loading ((pages p).journey b) ≡ true) where
   abbrev P : Page W

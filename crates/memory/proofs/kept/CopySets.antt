@@ -1,10 +1,9 @@
 -- The members of a copy set, at its owner or in a grant, are boards of the kit, and not the owner.
-use Rattle.std.proofs.Common.{◌≡◌, ℕ, ◌<◌, Bool, true, ap, arith}
-use Rattle.memory.proofs.kept.Sets.{facts}
-use Rattle.memory.proofs.model.Board.{none}
+use Rattle.std.proofs.Common.{◌≡◌, ℕ, ◌<◌, true, ap, arith}
 use Rattle.memory.proofs.model.Invariant.{Core}
-use Rattle.memory.proofs.model.Page.{Journey, home, granted, Page, busy, rooted}
+use Rattle.memory.proofs.model.Page.{home, granted, Page, rooted}
 use Rattle.memory.proofs.model.Sets.{has, Boards}
+use Rattle.memory.proofs.kept.Sets.{facts}
 
 module _ {W : Type 0} {n : ℕ} {v : W} {p : Page W} (i : Core n v p) where
   pub granted_in : (a s h : ℕ) (c : Boards) (w : W) → p.journey a ≡ granted s h c w → (x : ℕ) → has c x ≡ true → (x < n) × (x ≡ a → ⊥)

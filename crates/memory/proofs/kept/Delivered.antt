@@ -1,19 +1,19 @@
 -- Every message that waits is expected, and its delivery is a step of its page.
-use Rattle.memory.proofs.kept.Messages.{taken_flies}
 use Rattle.std.proofs.Common.{◌≡◌, ℕ, Bool, false, ◌⊎◌, refl, inl, inr, arith}
 use Rattle.std.proofs.lemmas.Bool.{cases_Bool}
-use Rattle.memory.proofs.model.Sets.{has, Boards}
-use Rattle.memory.proofs.kept.Sets.{facts}
-use Rattle.memory.proofs.model.Sums.{upd}
-use Rattle.memory.proofs.model.Board.{Kind, Mail, request, copy, grant, invalidate, acknowledge}
-use Rattle.memory.proofs.model.Page.{Mark, unmarked, sent, deferred, acked, Journey, home, asking, queued, copied, granted, clearing, Page, busy, loading, mark}
-use Rattle.memory.proofs.model.Invariant.{Holders, Inv}
 use Rattle.wire.specs.Bags.{Bag}
+use Rattle.memory.proofs.model.Board.{Kind, Mail, request, copy, grant, invalidate, acknowledge}
+use Rattle.memory.proofs.model.Invariant.{Inv}
 use Rattle.memory.proofs.model.Kit.{just, Post, Kit, none_below, mail_of, Told, Equality}
+use Rattle.memory.proofs.model.Page.{Mark, unmarked, sent, deferred, acked, Journey, home, asking, queued, copied, granted, clearing, Page, busy, loading, mark}
+use Rattle.memory.proofs.model.Sets.{has, Boards}
+use Rattle.memory.proofs.model.Sums.{upd}
 use Rattle.memory.proofs.kept.DeliverySteps.{Sim, Takes}
-use Rattle.memory.proofs.kept.RequestDelivered.{join_sim, served_sim}
 use Rattle.memory.proofs.kept.InvalidationsDelivered.{grant_sim, defer_sim, drop_sim, ack_sim}
 use Rattle.memory.proofs.kept.LoadFinishes.{load_sim, load_drop_sim}
+use Rattle.memory.proofs.kept.Messages.{taken_flies}
+use Rattle.memory.proofs.kept.RequestDelivered.{join_sim, served_sim}
+use Rattle.memory.proofs.kept.Sets.{facts}
 use Rattle.memory.proofs.kept.StoreFinishes.{grant_free_sim, last_ack_sim}
 
 deferred_or : (m : Mark) → (m ≡ deferred) ⊎ (m ≡ deferred → ⊥)

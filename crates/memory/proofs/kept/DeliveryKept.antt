@@ -1,23 +1,23 @@
 -- A delivery keeps what is kept of a kit, is answered rightly and takes from the work that is left.
-use Rattle.memory.proofs.kept.KitKept.{Kept, left_of, opens_changed}
-use Rattle.memory.proofs.kept.Stages.{closed_home, open_is_busy, busy_is_open, op_not_closed, open_here, off_page}
-use Rattle.memory.proofs.kept.Sums.{upd_self_at, sum_less, upd_same, upd_other, upd_both}
 use Rattle.std.proofs.Common.{◌≡◌, ℕ, ◌+◌, ◌-◌, ◌*◌, ◌<◌, ◌≤◌, Bool, true, false, ◌⊎◌, List, sym, refl, ap, ◌∙◌, subst, inl, inr, arith}
 use Rattle.std.proofs.lemmas.Bool.{cases_eq, cases_Bool}
-use Rattle.memory.proofs.kept.Sets.{facts}
-use Rattle.memory.proofs.model.Sums.{upd, sum_to}
+use Rattle.wire.specs.Bags.{Bag, ◌&◌}
 use Rattle.memory.proofs.model.Board.{load, store, Entry, Mail}
+use Rattle.memory.proofs.model.Calls.{call_deliver, Ledger, stored, after, Good, said_of, said_by, posts_by, kit_by}
+use Rattle.memory.proofs.model.Invariant.{Inv}
+use Rattle.memory.proofs.model.Kit.{absent, just, Stage, closed, asked, clears, Seat, Board, Post, Kit, Reply, open_on, to, stage_of, Told, becomes, arrives, requests, Open, op_load, op_store, op_by, op_of, Equality}
 use Rattle.memory.proofs.model.Page.{Page, busy, far}
 use Rattle.memory.proofs.model.Steps.{Answer, nothing, read_at, written_at, Delivery, delivers}
-use Rattle.memory.proofs.model.Invariant.{Inv}
-use Rattle.wire.specs.Bags.{Bag, ◌&◌}
-use Rattle.memory.proofs.model.Kit.{absent, just, Stage, closed, asked, clears, Seat, Board, Post, Kit, Reply, open_on, to, stage_of, Told, becomes, arrives, requests, Open, op_load, op_store, op_by, op_of, Equality}
+use Rattle.memory.proofs.model.Sums.{upd, sum_to}
 use Rattle.memory.proofs.model.Weights.{weight, Falls}
-use Rattle.memory.proofs.model.Calls.{call_deliver, Ledger, stored, after, Good, said_of, said_by, posts_by, kit_by}
-use Rattle.memory.proofs.kept.PageKept.{step_kept}
-use Rattle.memory.proofs.kept.WorkFalls.{delivery_falls}
-use Rattle.memory.proofs.kept.DeliverySteps.{Tale}
 use Rattle.memory.proofs.kept.Delivered.{deliver_sim}
+use Rattle.memory.proofs.kept.DeliverySteps.{Tale}
+use Rattle.memory.proofs.kept.KitKept.{Kept, left_of, opens_changed}
+use Rattle.memory.proofs.kept.PageKept.{step_kept}
+use Rattle.memory.proofs.kept.Sets.{facts}
+use Rattle.memory.proofs.kept.Stages.{closed_home, open_is_busy, busy_is_open, op_not_closed, open_here, off_page}
+use Rattle.memory.proofs.kept.Sums.{upd_self_at, sum_less, upd_same, upd_other, upd_both}
+use Rattle.memory.proofs.kept.WorkFalls.{delivery_falls}
 
 -- a stage stays open unless the access ends
 stays_open : {W : Type 0} (s z : Stage) (p r : ℕ) (f g : W → W) → (op_by s p f ≡ op_by z r g) ⊎ (op_by s p f ≡ absent) → (s ≡ closed → ⊥) → z ≡ closed → ⊥
@@ -95,7 +95,6 @@ page_of_op (asked load) p f r (inr h) = let z = h.1 in absurd (grind arith)
 page_of_op (asked store) p f r (inr h) = let z = h.1 in cc
 page_of_op (clears g) p f r (inr h) = let z = h.1 in cc
 
--- a delivery
 module _ {W : Type 0} {same : Mail W → Mail W → Bool} {n : ℕ} {l : Ledger W} {k : Kit W} (law : Equality same) (i : Kept same n l k) (p : ℕ) (m : Mail W) (rest : Bag (Post W)) where
   abbrev b : ℕ
   b = to m

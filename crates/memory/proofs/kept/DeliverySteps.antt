@@ -1,13 +1,13 @@
 -- What it is for the delivery of a message to be a step of its page.
-use Rattle.memory.proofs.model.Kit.{stage_of, Maybe, absent, just, Stage, Seat, Post, Kit, replies, arrive, to, mail_of, is_it, flies, times, Told, post_all, becomes, arrives, requests, op_load, op_store, op_of, Equality}
 use Rattle.std.proofs.Common.{◌≡◌, ℕ, ◌+◌, Bool, true, false, List, ap, arith}
-use Rattle.memory.proofs.kept.Sets.{facts}
-use Rattle.memory.proofs.model.Sums.{upd, bit}
+use Rattle.wire.specs.Bags.{Bag, ◌&◌}
 use Rattle.memory.proofs.model.Board.{Entry, Mail}
+use Rattle.memory.proofs.model.Kit.{stage_of, Maybe, absent, just, Stage, Seat, Post, Kit, replies, arrive, to, mail_of, is_it, flies, times, Told, post_all, becomes, arrives, requests, op_load, op_store, op_of, Equality}
 use Rattle.memory.proofs.model.Page.{Journey, Page, busy, far}
 use Rattle.memory.proofs.model.Steps.{Answer, nothing, read_at, written_at, Delivery}
-use Rattle.wire.specs.Bags.{Bag, ◌&◌}
+use Rattle.memory.proofs.model.Sums.{upd, bit}
 use Rattle.memory.proofs.kept.Messages.{listed, cell_change, times_post}
+use Rattle.memory.proofs.kept.Sets.{facts}
 
 -- what a delivery tells of the open access of its board b, before and after, and of the hops
 abbrev pub Tale : {W : Type 0} → Answer W → Seat W → Seat W → ℕ → ℕ → Page W → List (Mail W) → Type 0
@@ -53,6 +53,6 @@ module _ {W : Type 0} {same : Mail W → Mail W → Bool} {k : Kit W} {pages : �
   pub arrives_is : (n p : ℕ) (m : Mail W) (st : Stage) → stage_of ((pages p).journey (to m)) ≡ st → arrives n k p m ≡ arrive n (to m) (k.board (to m)).seat ((pages p).entry (to m)) m st
   arrives_is n p m st e = let a = t.entries (to m) p in let b = t.stages (to m) p in cc
 
-  -- who has an access open on the page has it there alone
+  -- a board has one access open at most: if its journey is on page p, it is on that page
   pub here_is : (p b : ℕ) → busy ((pages p).journey b) ≡ true → p ≡ (k.board b).seat.page
   here_is p b e = grind (arith, facts, t.stages b p)

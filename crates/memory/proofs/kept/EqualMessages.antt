@@ -1,9 +1,9 @@
 -- A test of messages whose words are lists of numbers: it holds of equal messages alone.
 use Rattle.std.proofs.Common.{◌≡◌, ℕ, zero, suc, Bool, true, false, cond, ◌&&◌, eqb, List, [], ◌∷◌, sym, refl, ◌∙◌, arith}
 use Rattle.std.proofs.lemmas.Bool.Decides.{nat_tests}
-use Rattle.memory.proofs.model.Sums.{bit}
 use Rattle.memory.proofs.model.Board.{load, store, is_load, Mail, request, copy, grant, invalidate, acknowledge}
 use Rattle.memory.proofs.model.Kit.{Equality}
+use Rattle.memory.proofs.model.Sums.{bit}
 
 abbrev same_list : {X : Type 0} → (X → ℕ) → List X → List X → Bool
 same_list f [] [] = true
@@ -31,7 +31,7 @@ bit_one true false e = absurd (omega arith)
 bit_one false true e = absurd (omega arith)
 bit_one false false e = refl
 
-pub record Parts : Type 0 where
+record Parts : Type 0 where
   pub sort : ℕ
   pub one : ℕ
   pub two : ℕ

@@ -1,18 +1,18 @@
 -- At most n (n - 1) messages wait on the link of n boards.
-use Rattle.memory.proofs.kept.Stages.{closed_home, off_page}
-use Rattle.memory.proofs.kept.Sums.{sum_each, sum_zero, count_room_one}
 use Rattle.std.proofs.Common.{◌≡◌, ℕ, zero, suc, ◌+◌, ◌-◌, ◌*◌, ◌<◌, ◌≤◌, Bool, true, false, ◌&&◌, eqb, sym, refl, ap, ◌∙◌, inl, inr, arith}
 use Rattle.std.proofs.lemmas.Bool.{cases_eq, cases_Bool}
-use Rattle.memory.proofs.kept.Sets.{facts}
-use Rattle.memory.proofs.model.Sums.{bit, sum_to, count}
-use Rattle.memory.proofs.model.Board.{Mail}
-use Rattle.memory.proofs.model.Page.{Mark, Journey, home, asking, queued, copied, granted, clearing, Page, awaits, busy, rooted, mark_of, mark}
-use Rattle.memory.proofs.model.Invariant.{Inv}
 use Rattle.wire.specs.Bags.{total, size}
-use Rattle.memory.proofs.model.Kit.{Maybe, absent, just, Post, Kit, owner, slot, mark_mail, mail_of, is_it, Equality}
+use Rattle.memory.proofs.model.Board.{Mail}
 use Rattle.memory.proofs.model.Calls.{Ledger}
-use Rattle.memory.proofs.kept.Places.{some, fits}
+use Rattle.memory.proofs.model.Invariant.{Inv}
+use Rattle.memory.proofs.model.Kit.{Maybe, absent, just, Post, Kit, owner, slot, mark_mail, mail_of, is_it, Equality}
+use Rattle.memory.proofs.model.Page.{Mark, Journey, home, asking, queued, copied, granted, clearing, Page, awaits, busy, rooted, mark_of, mark}
+use Rattle.memory.proofs.model.Sums.{bit, sum_to, count}
 use Rattle.memory.proofs.kept.KitKept.{Kept}
+use Rattle.memory.proofs.kept.Places.{some, fits}
+use Rattle.memory.proofs.kept.Sets.{facts}
+use Rattle.memory.proofs.kept.Stages.{closed_home, off_page}
+use Rattle.memory.proofs.kept.Sums.{sum_each, sum_zero, count_room_one}
 
 -- with its page
 abbrev posted_on : {W : Type 0} → ℕ → Maybe (Mail W) → Maybe (Post W)
@@ -110,7 +110,6 @@ module _ {W : Type 0} {same : Mail W → Mail W → Bool} {n : ℕ} {l : Ledger 
       still_none : (j : Journey W) (s : ℕ) → busy j ≡ false → bit (some (posted_on (at a) (mail_of a j s))) ≡ 0
       still_none j s b = grind arith
 
-  -- at most n (n - 1) messages wait
   pub link_bound : size k.link ≤ n * (n - 1)
   link_bound = omega (
     arith,

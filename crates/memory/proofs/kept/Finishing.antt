@@ -1,14 +1,14 @@
--- What finishes an access at a board and serves its waiting list leaves a kit that its pages tell.
-use Rattle.memory.proofs.kept.Messages.{listed}
+-- An access finishes and its board serves those that wait: the kit is told by its pages again.
 use Rattle.std.proofs.Common.{◌≡◌, ℕ, ◌+◌, Bool, true, false, List, [], ap, arith}
-use Rattle.memory.proofs.kept.Sets.{facts}
-use Rattle.memory.proofs.model.Sums.{upd, bit}
-use Rattle.memory.proofs.model.Board.{Entry, Mail}
-use Rattle.memory.proofs.model.Page.{Page, awaits, busy, mark_of, mark}
 use Rattle.wire.specs.Bags.{Bag}
+use Rattle.memory.proofs.model.Board.{Entry, Mail}
 use Rattle.memory.proofs.model.Kit.{absent, closed, Post, Kit, vacant, stage_of, deferral_of, flies, Told, becomes, Equality}
+use Rattle.memory.proofs.model.Page.{Page, awaits, busy, mark_of, mark}
+use Rattle.memory.proofs.model.Sums.{upd, bit}
 use Rattle.memory.proofs.kept.DeliverySteps.{mails_after, Takes, here_is}
+use Rattle.memory.proofs.kept.Messages.{listed}
 use Rattle.memory.proofs.kept.ServedTold.{Changes}
+use Rattle.memory.proofs.kept.Sets.{facts}
 
 module _ {W : Type 0} (same : Mail W → Mail W → Bool) (law : Equality same) (n : ℕ) (k : Kit W) (pages : ℕ → Page W) (t : Told same k pages) (p : ℕ) (rest : Bag (Post W)) where
   abbrev P : Page W

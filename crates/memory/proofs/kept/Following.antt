@@ -3,8 +3,8 @@ use Rattle.std.proofs.Common.{◌≡◌, ℕ, ◌⊎◌, sym, refl, ◌∙◌, i
 use Rattle.std.proofs.lemmas.Bool.{cases_eq}
 use Rattle.memory.proofs.model.Tree.{Reach, here, step, Turned}
 
--- past x, where the way goes on
-pub reach_on : {f : ℕ → ℕ} {x y b : ℕ} → (b ≡ x → ⊥) → f x ≡ y → Reach f b x → Reach f b y
+-- who reaches b from x, and is not there yet, reaches it from the next board
+reach_on : {f : ℕ → ℕ} {x y b : ℕ} → (b ≡ x → ⊥) → f x ≡ y → Reach f b x → Reach f b y
 reach_on ne e (here h) = absurd (ne (sym h))
 reach_on ne e (step g r) = rw (sym g ∙ e) at r
 
@@ -14,7 +14,7 @@ reach_fixed e (here h) = h
 reach_fixed {f} e (step {y = y} g r) = let q : f y ≡ y = cc in cc (reach_fixed q r)
 
 module _ {f g : ℕ → ℕ} {a u v : ℕ} (t : Turned f g a u v) where
-  -- what reaches b still does, unless b is the board that passed the request on
+  -- who reaches b still does, unless b is the board that passed the request on
   one : {b x y : ℕ} → (b ≡ u → ⊥) → f u ≡ v → f x ≡ y → (x ≡ a) ⊎ (x ≡ a → ⊥) → (x ≡ u) ⊎ (x ≡ u → ⊥) → Reach g b y → Reach g b x
   one ne at_u e (inl p) q s = reach_on (λ k. ne (cc)) (cc) s
   one {y = y} ne at_u e (inr p) (inl q) s = step {y = a} (cc) (step {y = y} (cc) s)
@@ -34,7 +34,7 @@ module _ {f g : ℕ → ℕ} {a u v : ℕ} (t : Turned f g a u v) where
   keeps_root ne at_u (here e) = here e
   keeps_root {x = x} ne at_u (step e r) = one_root ne at_u e (cases_eq x a) (cases_eq x u) (keeps_root ne at_u r)
 
-  -- and what reached u reaches a
+  -- who reached u reaches a
   one_new : {x y : ℕ} → f x ≡ y → (x ≡ a) ⊎ (x ≡ a → ⊥) → (x ≡ u) ⊎ (x ≡ u → ⊥) → Reach g a y → Reach g a x
   one_new e (inl p) q s = here p
   one_new e (inr p) (inl q) s = step {y = a} (cc) (here refl)
@@ -45,7 +45,7 @@ module _ {f g : ℕ → ℕ} {a u v : ℕ} (t : Turned f g a u v) where
   comes {x} (step e r) = one_new e (cases_eq x a) (cases_eq x u) (comes r)
 
 -- on a cycle through a, all that a reaches lies on it
-pub round : {f : ℕ → ℕ} {a u b x : ℕ} → f a ≡ u → Reach f a u → Reach f a x → Reach f b x → Reach f a b
+round : {f : ℕ → ℕ} {a u b x : ℕ} → f a ≡ u → Reach f a u → Reach f a x → Reach f b x → Reach f a b
 round e c k (here h) = rw h at k
 round {f} {a} {u} {b} {x} e c k (step {y = y} h r) = elim (cases_eq a x) [
   | inl p ↦ round e c (let q : u ≡ y = cc in rw q at c) r
@@ -56,7 +56,7 @@ round {f} {a} {u} {b} {x} e c k (step {y = y} h r) = elim (cases_eq a x) [
 pub no_cycle : {f : ℕ → ℕ} {a u r : ℕ} → f r ≡ r → (a ≡ r → ⊥) → f a ≡ u → Reach f r a → Reach f a u → ⊥
 no_cycle fix ne e top c = ne (sym (reach_fixed fix (round e c (here refl) top)))
 
--- what each board hands on to its next comes to whoever is reached
+-- what holds of the next board where it holds of a board holds of whoever is reached
 pub walk : {f : ℕ → ℕ} {b x : ℕ} (P : ℕ → Type 0) → ((y : ℕ) → P y → P (f y)) → Reach f b x → P x → P b
 walk P h (here e) p = rw e at p
 walk P h (step {x} e r) p = walk P h r (rw e at (h x p))

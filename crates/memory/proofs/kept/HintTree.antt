@@ -1,17 +1,17 @@
--- A call, a request that is passed on or granted, and an access that ends keep the tree of hints and the trail of each request.
-use Rattle.std.proofs.lemmas.Bool.{false_from_ne_true, cases_eq, cases_Bool, both_ways}
-use Rattle.std.proofs.Common.{◌≡◌, ℕ, ◌+◌, ◌<◌, ◌≤◌, Bool, true, false, sym, refl, ap, ◌∙◌, inl, inr, arith}
+-- A call, a request that is passed on or granted, and an access that ends leave the hints a tree, and each request a trail of boards that it does not meet again.
+use Rattle.std.proofs.Common.{◌≡◌, ℕ, ◌+◌, ◌<◌, ◌≤◌, true, false, sym, refl, ap, ◌∙◌, inl, inr, arith}
 use Rattle.std.proofs.lemmas.Bool.Decides.{nat_tests}
+use Rattle.std.proofs.lemmas.Bool.{false_from_ne_true, cases_eq, both_ways}
 use Rattle.memory.proofs.model.Sums.{upd}
 use Rattle.memory.proofs.model.Tree.{Reach, here, step, Turned, State, Trail, Asker, Inv, opened, passed_on, granted, closed, first}
-use Rattle.memory.proofs.kept.Sums.{upd_other, upd_both, count_more, count_room, sum_zero}
 use Rattle.memory.proofs.kept.Following.{reach_fixed, keeps, keeps_root, comes, no_cycle}
+use Rattle.memory.proofs.kept.Sums.{upd_other, upd_both, count_more, count_room, sum_zero}
 
-pub turned : (f : ℕ → ℕ) (a u v : ℕ) → f a ≡ u → (u ≡ a → ⊥) → Turned f (upd (upd f a v) u a) a u v
+turned : (f : ℕ → ℕ) (a u v : ℕ) → f a ≡ u → (u ≡ a → ⊥) → Turned f (upd (upd f a v) u a) a u v
 turned f a u v e ne = record { was = e; a_now = grind (arith, nat_tests); u_now = grind (arith, nat_tests); rest = λ x p q. grind (arith, nat_tests) }
 
 -- the place of a request is neither its asker nor a board that passed it on: there is room for two more
-pub bound_of : {n : ℕ} {f : ℕ → ℕ} {a h r : ℕ} → f r ≡ r → (a ≡ r → ⊥) → Reach f r a → a < n → f a < n → Trail n f a h → h + 2 ≤ n
+bound_of : {n : ℕ} {f : ℕ → ℕ} {a h r : ℕ} → f r ≡ r → (a ≡ r → ⊥) → Reach f r a → a < n → f a < n → Trail n f a h → h + 2 ≤ n
 bound_of {n} {f} {a} fix ne top l k t =
     let apart : (a ≡ f a) → ⊥ = λ e. ne (reach_fixed (sym e) top) in
     let new : t.seen (f a) ≡ false = false_from_ne_true (t.seen (f a)) (λ e. no_cycle fix ne refl top (t.below (f a) e)) in

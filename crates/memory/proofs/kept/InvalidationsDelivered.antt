@@ -1,18 +1,18 @@
--- A grant with copies out sends invalidations; an invalidation arrives, and waits or is done; an acknowledgement arrives that is not the last.
-use Rattle.memory.proofs.kept.CopySets.{granted_in}
-use Rattle.memory.proofs.kept.Messages.{invalidates_ask, not_owner, not_slot, invalidates_listed}
-use Rattle.memory.proofs.kept.Below.{none_false}
+-- The invalidations of a store: a grant with copies out sends them, each waits at a board that loads or is done, and acknowledgements but the last are counted.
 use Rattle.std.proofs.Common.{◌≡◌, ℕ, ◌<◌, Bool, true, false, [], ◌∷◌, refl, ap, ◌∙◌, arith}
-use Rattle.memory.proofs.model.Sets.{has, Boards}
-use Rattle.memory.proofs.kept.Sets.{facts}
-use Rattle.memory.proofs.model.Sums.{upd}
-use Rattle.memory.proofs.model.Board.{store, Mail, grant, invalidate, acknowledge, drop_entry, got_grant}
-use Rattle.memory.proofs.model.Page.{Mark, unmarked, sent, deferred, acked, granted, clearing, Page, awaits, rooted, loading}
-use Rattle.memory.proofs.model.Steps.{goes, grant_came, dropped, grant_in, defers, drops, acks, nothing, moves}
-use Rattle.memory.proofs.model.Invariant.{Holders, Inv}
 use Rattle.wire.specs.Bags.{Bag}
+use Rattle.memory.proofs.model.Board.{store, Mail, grant, invalidate, acknowledge, drop_entry, got_grant}
+use Rattle.memory.proofs.model.Invariant.{Holders, Inv}
 use Rattle.memory.proofs.model.Kit.{absent, just, asked, clears, Post, Kit, none_below, invalidates, with_deferral, with_awaited, asked_load, slot, stage_of, Told, Equality}
+use Rattle.memory.proofs.model.Page.{Mark, unmarked, sent, deferred, acked, granted, clearing, Page, awaits, rooted, loading}
+use Rattle.memory.proofs.model.Sets.{has, Boards}
+use Rattle.memory.proofs.model.Steps.{goes, grant_came, dropped, grant_in, defers, drops, acks, nothing, moves}
+use Rattle.memory.proofs.model.Sums.{upd}
+use Rattle.memory.proofs.kept.Below.{none_false}
+use Rattle.memory.proofs.kept.CopySets.{granted_in}
 use Rattle.memory.proofs.kept.DeliverySteps.{Sim, replace, mails_after, Takes, arrives_is, here_is}
+use Rattle.memory.proofs.kept.Messages.{invalidates_ask, not_owner, not_slot, invalidates_listed}
+use Rattle.memory.proofs.kept.Sets.{facts}
 
 module _ {W : Type 0} (same : Mail W → Mail W → Bool) (law : Equality same) (n : ℕ) (v : W) (k : Kit W) (pages : ℕ → Page W) (t : Told same k pages) (p : ℕ) (i : Inv n v (pages p)) (rest : Bag (Post W)) where
   abbrev P : Page W
@@ -51,7 +51,7 @@ module _ {W : Type 0} (same : Mail W → Mail W → Bool) (law : Equality same) 
         };
       }
 
-  -- an invalidate from c for x
+  -- an invalidation from c for x
   pub defer_sim : (c x h : ℕ) (m : ℕ → Mark) → Takes k p (invalidate c x) rest → P.journey c ≡ clearing h m → m x ≡ sent → loading (P.journey x) ≡ true → Sim same n k pages p (invalidate c x) rest
   defer_sim c x h m e at is open_load =
       let root = o.only c (ap rooted at) in

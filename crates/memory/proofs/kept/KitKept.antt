@@ -1,17 +1,16 @@
 -- What is kept of a kit and its ledger: the kit is told by its pages, and the ledger agrees with them; and the work that is left.
-use Rattle.memory.proofs.kept.Sums.{upd_same, upd_other}
 use Rattle.std.proofs.Common.{◌≡◌, ℕ, ◌-◌, ◌*◌, ◌≤◌, Bool, true, sym, refl, ap, ◌∙◌, inl, inr, arith, []}
 use Rattle.std.proofs.lemmas.Bool.{cases_eq}
-use Rattle.memory.proofs.model.Sums.{upd, sum_to}
 use Rattle.memory.proofs.model.Board.{Mail}
-use Rattle.memory.proofs.model.Page.{Page, busy, far}
+use Rattle.memory.proofs.model.Calls.{Ledger, unchanged}
 use Rattle.memory.proofs.model.Invariant.{Inv}
 use Rattle.memory.proofs.model.Kit.{Maybe, absent, closed, Board, Kit, Told, Open, op_by, op_of}
+use Rattle.memory.proofs.model.Page.{Page, busy, far}
+use Rattle.memory.proofs.model.Sums.{upd, sum_to}
 use Rattle.memory.proofs.model.Weights.{weight}
-use Rattle.memory.proofs.model.Calls.{Ledger, unchanged}
 use Rattle.memory.proofs.kept.Stages.{open_is_busy, open_here}
+use Rattle.memory.proofs.kept.Sums.{upd_same, upd_other}
 
--- what is kept of a kit and its history
 pub record Kept {W : Type 0} (same : Mail W → Mail W → Bool) (n : ℕ) (l : Ledger W) (k : Kit W) : Type 0 where
   pub pages : ℕ → Page W
   pub told : Told same k pages
@@ -21,7 +20,7 @@ pub record Kept {W : Type 0} (same : Mail W → Mail W → Bool) (n : ℕ) (l : 
   pub light : (p x : ℕ) → weight n ((pages p).journey x) ≤ 3 * n - 4
   pub bound : (x : ℕ) → l.passed x ≤ n - 2
 
--- what is left to do
+-- the work that is left: what all journeys weigh
 abbrev pub left_of : {W : Type 0} {same : Mail W → Mail W → Bool} {n : ℕ} {l : Ledger W} {k : Kit W} → Kept same n l k → ℕ
 left_of {n = n} {k = k} i = sum_to n (λ x. weight n ((i.pages (k.board x).seat.page).journey x))
 

@@ -1,20 +1,20 @@
--- A copy arrives, which finishes a load; then an invalidation that waited is done.
+-- A copy arrives and finishes a load; an invalidation that waited for it is then done.
 use Rattle.std.proofs.Common.{◌≡◌, ℕ, Bool, ◌∷◌, sym, refl, ap, ◌∙◌, arith}
-use Rattle.memory.proofs.kept.Sets.{facts}
-use Rattle.memory.proofs.model.Sums.{upd}
+use Rattle.wire.specs.Bags.{Bag}
 use Rattle.memory.proofs.model.Board.{load, Mail, copy, acknowledge, got_copy, drop_entry, serve_entries, serve_mails}
+use Rattle.memory.proofs.model.Invariant.{Holders, Inv}
+use Rattle.memory.proofs.model.Kit.{absent, just, asked, Post, Kit, replies, vacant, finish_load, stage_of, deferral_of, Told, Equality}
 use Rattle.memory.proofs.model.Page.{Mark, unmarked, sent, deferred, acked, home, copied, clearing, Page, busy, far, rooted, mark}
 use Rattle.memory.proofs.model.Steps.{copy_came, copy_dropped, Loaded, copy_in, copy_then_drop, read_at, loads}
-use Rattle.memory.proofs.model.Invariant.{Holders, Inv}
-use Rattle.wire.specs.Bags.{Bag}
-use Rattle.memory.proofs.model.Kit.{absent, just, asked, Post, Kit, replies, vacant, finish_load, stage_of, deferral_of, Told, Equality}
-use Rattle.memory.proofs.kept.Sums.{upd_same}
-use Rattle.memory.proofs.kept.PageKept.{loaded_core, in_clearing}
+use Rattle.memory.proofs.model.Sums.{upd}
 use Rattle.memory.proofs.kept.DeliverySteps.{Sim, replace, Takes, arrives_is, here_is}
-use Rattle.memory.proofs.kept.ServedTold.{changes_calm, serve_list_told, done_asks, done_hops}
 use Rattle.memory.proofs.kept.Finishing.{finish_told}
+use Rattle.memory.proofs.kept.PageKept.{loaded_core, in_clearing}
+use Rattle.memory.proofs.kept.ServedTold.{changes_calm, serve_list_told, done_asks, done_hops}
+use Rattle.memory.proofs.kept.Sets.{facts}
+use Rattle.memory.proofs.kept.Sums.{upd_same}
 
-pub not_deferred : (m : Mark) (r : ℕ) → (m ≡ deferred → ⊥) → deferral_of m r ≡ absent
+not_deferred : (m : Mark) (r : ℕ) → (m ≡ deferred → ⊥) → deferral_of m r ≡ absent
 not_deferred unmarked r ne = refl
 not_deferred sent r ne = refl
 not_deferred deferred r ne = absurd (ne refl)

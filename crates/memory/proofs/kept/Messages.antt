@@ -1,15 +1,15 @@
--- The messages on the link: one at most for each open access and board that it waits for.
+-- The messages on the link: at most one for each journey and place, and what a delivery or a call changes of them.
 use Rattle.std.proofs.Common.{◌≡◌, ℕ, zero, suc, ◌+◌, Bool, true, false, cond, eqb, ltb, List, [], ◌∷◌, ◌++◌, sym, refl, ap, ◌∙◌, inl, inr, arith}
 use Rattle.std.proofs.lemmas.Bool.{cases_eq, cases_Bool}
-use Rattle.memory.proofs.model.Sets.{has, Boards}
-use Rattle.memory.proofs.kept.Sets.{facts}
-use Rattle.memory.proofs.model.Sums.{bit}
-use Rattle.memory.proofs.model.Board.{Mail, invalidate}
-use Rattle.memory.proofs.model.Page.{Journey, home, asking, queued, copied, granted, clearing, marks}
 use Rattle.wire.specs.Bags.{Bag, ◌&◌}
+use Rattle.memory.proofs.model.Board.{Mail, invalidate}
 use Rattle.memory.proofs.model.Kit.{Equality, Maybe, absent, just, Post, owner, slot, mark_mail, mail_of, is_it, flies, times, post_all, invalidates, requests}
+use Rattle.memory.proofs.model.Page.{Journey, home, asking, queued, copied, granted, clearing, marks}
+use Rattle.memory.proofs.model.Sets.{has, Boards}
+use Rattle.memory.proofs.model.Sums.{bit}
+use Rattle.memory.proofs.kept.Sets.{facts}
 
-abbrev pub Keyed : {W : Type 0} → Maybe (Mail W) → ℕ → ℕ → Type 0
+abbrev Keyed : {W : Type 0} → Maybe (Mail W) → ℕ → ℕ → Type 0
 Keyed absent o s = Unit {0}
 Keyed (just m) o s = (owner m ≡ o) × (slot m ≡ s)
 
@@ -30,7 +30,7 @@ invalidates_ask {W} m a x c ms e = ap (requests x) e ∙ go m
     go (suc m) = grind (arith, go m, requests_app x (invalidates {W = W} m a c) (cond (has c m) (invalidate a m ∷ []) []))
 
 module _ {W : Type 0} (same : Mail W → Mail W → Bool) (law : Equality same) where
-  pub keyed : (a s : ℕ) (t : Journey W) → Keyed (mail_of a t s) a s
+  keyed : (a s : ℕ) (t : Journey W) → Keyed (mail_of a t s) a s
   keyed a s home = tt
   keyed a s (asking k u h) = grind (arith, facts)
   keyed a s (queued k u h) = tt
@@ -92,7 +92,7 @@ module _ {W : Type 0} (same : Mail W → Mail W → Bool) (law : Equality same) 
   pub not_slot : (x m : Mail W) → (slot x ≡ slot m → ⊥) → same x m ≡ false
   not_slot x m ne = elim (cases_Bool (same x m)) [ inl e ↦ absurd (ne (ap slot (law.is x m e))) | inr e ↦ e ]
 
-  -- the invalidates to the members of c below n
+  -- the invalidations to the members of c below n
   pub invalidates_listed : (n a : ℕ) (c : Boards) (x : Mail W) → listed same x (invalidates n a c) ≡ cond (ltb (slot x) n) (bit (is_it same x (cond (eqb (owner x) a) (mark_mail a (slot x) (marks c (slot x))) absent))) 0
   invalidates_listed zero a c x = grind (arith, facts)
   invalidates_listed (suc n) a c x =

@@ -1,13 +1,13 @@
 -- Where no message of a page is on the link, nothing is open on the page.
-use Rattle.memory.proofs.kept.Below.{all_below_at}
 use Rattle.std.proofs.Common.{◌≡◌, ℕ, ◌<◌, true, refl, ap, inl, inr, arith}
 use Rattle.std.proofs.lemmas.Bool.{cases_Bool}
-use Rattle.memory.proofs.kept.Sets.{facts}
 use Rattle.memory.proofs.model.Board.{Kind}
-use Rattle.memory.proofs.model.Page.{deferred, Journey, home, asking, queued, copied, granted, clearing, Page, busy, place, is_clearing, mark, occ, quiet_mark, silent}
 use Rattle.memory.proofs.model.Invariant.{Holders, Inv}
+use Rattle.memory.proofs.model.Page.{deferred, Journey, home, asking, queued, copied, granted, clearing, Page, busy, place, is_clearing, mark, occ, quiet_mark, silent}
 use Rattle.memory.proofs.model.Sums.{all_below}
+use Rattle.memory.proofs.kept.Below.{all_below_at}
 use Rattle.memory.proofs.kept.Following.{walk}
+use Rattle.memory.proofs.kept.Sets.{facts}
 
 module _ {W : Type 0} (n : ℕ) (v : W) (p : Page W) (i : Inv n v p) (rest : (y : ℕ) → y < n → silent n (p.journey y) ≡ true) where
   abbrev o : Holders n p

@@ -1,19 +1,19 @@
 -- Where nothing waits on the link of a kit, nothing is open.
-use Rattle.memory.proofs.kept.Below.{all_below_all}
 use Rattle.std.proofs.Common.{◌≡◌, ℕ, Bool, true, false, sym, refl, ap, ◌∙◌, inl, inr, arith}
-use Rattle.memory.proofs.kept.Sets.{facts}
-use Rattle.memory.proofs.model.Sums.{bit}
-use Rattle.memory.proofs.model.Board.{Mail, request, copy, grant, invalidate, acknowledge}
-use Rattle.memory.proofs.model.Page.{Mark, unmarked, sent, deferred, acked, Journey, home, asking, queued, copied, granted, clearing, busy, silent, quiet_mark}
-use Rattle.memory.proofs.model.Kit.{absent, Kit, flies, times, Equality}
 use Rattle.wire.specs.Bags.{empty as no_mail}
+use Rattle.memory.proofs.model.Board.{Mail, request, copy, grant, invalidate, acknowledge}
 use Rattle.memory.proofs.model.Calls.{Ledger}
-use Rattle.memory.proofs.kept.NoDeadlock.{stuck}
+use Rattle.memory.proofs.model.Kit.{absent, Kit, flies, times, Equality}
+use Rattle.memory.proofs.model.Page.{Mark, unmarked, sent, deferred, acked, Journey, home, asking, queued, copied, granted, clearing, busy, silent, quiet_mark}
+use Rattle.memory.proofs.model.Sums.{bit}
+use Rattle.memory.proofs.kept.Below.{all_below_all}
 use Rattle.memory.proofs.kept.KitKept.{Kept, shut_absent, open_journey}
+use Rattle.memory.proofs.kept.NoDeadlock.{stuck}
+use Rattle.memory.proofs.kept.Sets.{facts}
 use Rattle.memory.proofs.kept.Stages.{stage_cases}
 
 module _ {W : Type 0} (same : Mail W → Mail W → Bool) (law : Equality same) where
-  -- nothing flies: every journey is silent
+  -- no message of a page is on the link: so none of its journeys has one there
   silent_all : (n : ℕ) (j : ℕ → Journey W) → ((x : Mail W) → flies same j x ≡ false) → (y : ℕ) (t : Journey W) → j y ≡ t → silent n t ≡ true
   silent_all n j h y home e = refl
   silent_all n j h y (asking k u g) e = absurd (let a = h (request k u y g) in let b = law.self (request k u y g) in grind (arith, facts))
@@ -29,7 +29,6 @@ module _ {W : Type 0} (same : Mail W → Mail W → Bool) (law : Equality same) 
       by_mark x acked is = absurd (let a = h (acknowledge x y) in let b = law.self (acknowledge x y) in grind (arith, facts))
 
 module _ {W : Type 0} {same : Mail W → Mail W → Bool} {n : ℕ} {l : Ledger W} {k : Kit W} (law : Equality same) (i : Kept same n l k) where
-  -- where nothing waits on the link nothing is open
   pub quiet_none : k.link ≡ no_mail → (x : ℕ) → l.opens x ≡ absent
   quiet_none e x = elim (stage_cases (k.board x).seat.stage) [
     | inl c ↦ shut_absent i x c

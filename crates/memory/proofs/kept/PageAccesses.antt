@@ -1,16 +1,16 @@
 -- A board asks for a page, clears the copies of it, or stores in it: what is kept of the page stays so.
-use Rattle.memory.proofs.kept.CopySets.{copies_in}
 use Rattle.std.proofs.Common.{◌≡◌, ℕ, ◌<◌, true, false, ◌⊎◌, sym, refl, ap, subst, arith}
-use Rattle.memory.proofs.model.Sets.{has, nobody}
-use Rattle.memory.proofs.kept.Sets.{facts}
-use Rattle.memory.proofs.model.Tree as tree
 use Rattle.memory.proofs.model.Board.{none, Kind, load}
-use Rattle.memory.proofs.model.Page.{Mark, home, asking, clearing, Page, rooted, is_queued, holder, view, marks}
 use Rattle.memory.proofs.model.Invariant.{Core}
-use Rattle.memory.proofs.kept.Waiting.{told_after}
-use Rattle.memory.proofs.kept.HintTree.{open_kept, close_kept, state_path}
+use Rattle.memory.proofs.model.Page.{Mark, home, asking, clearing, Page, rooted, is_queued, holder, view, marks}
+use Rattle.memory.proofs.model.Sets.{has, nobody}
 use Rattle.memory.proofs.model.Steps.{goes, stored_at}
+use Rattle.memory.proofs.model.Tree as tree
+use Rattle.memory.proofs.kept.CopySets.{copies_in}
+use Rattle.memory.proofs.kept.HintTree.{open_kept, close_kept, state_path}
 use Rattle.memory.proofs.kept.Roots.{own}
+use Rattle.memory.proofs.kept.Sets.{facts}
+use Rattle.memory.proofs.kept.Waiting.{told_after}
 
 module _ {W : Type 0} (n : ℕ) (v : W) (p : Page W) (i : Core n v p) where
   -- a board that does not own the page asks for it

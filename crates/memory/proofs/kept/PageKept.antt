@@ -1,16 +1,16 @@
 -- Every step of a page keeps what is kept of the page, and answers rightly.
 use Rattle.std.proofs.Common.{◌≡◌, ℕ, ◌-◌, ◌<◌, ◌≤◌, true, false, ◌⊎◌, [], refl, ap, inl, inr, arith}
-use Rattle.memory.proofs.kept.Sets.{facts}
 use Rattle.memory.proofs.model.Board.{load, store}
-use Rattle.memory.proofs.model.Page.{Mark, deferred, Journey, home, asking, queued, copied, granted, clearing, Page, is_none, is_write, busy, rooted, mark_of, holder}
 use Rattle.memory.proofs.model.Invariant.{Holders, Tables, Data, Core, Inv}
+use Rattle.memory.proofs.model.Page.{Mark, deferred, Journey, home, asking, queued, copied, granted, clearing, Page, is_none, is_write, busy, rooted, mark_of, holder}
 use Rattle.memory.proofs.model.Steps.{stored_at, MayStore, Serving, empty, Call, ask_load, ask_store, clear, Move, joins, served, grant_in, defers, drops, acks, Loaded, copy_in, copy_then_drop, Stores, grant_free, last_ack, Answer, moves, loads, stores, Step, opens, load_now, store_now, delivers, fed, Right}
-use Rattle.memory.proofs.kept.PageAccesses.{ask_core, clear_core, stored_core}
-use Rattle.memory.proofs.kept.Roots.{no_access, no_owner, own}
-use Rattle.memory.proofs.kept.Requests.{joined_core}
-use Rattle.memory.proofs.kept.Replies.{copy_core, copy_drop_core, grant_core}
 use Rattle.memory.proofs.kept.Invalidations.{defer_core, drop_core, ack_core}
+use Rattle.memory.proofs.kept.PageAccesses.{ask_core, clear_core, stored_core}
+use Rattle.memory.proofs.kept.Replies.{copy_core, copy_drop_core, grant_core}
+use Rattle.memory.proofs.kept.Requests.{joined_core}
+use Rattle.memory.proofs.kept.Roots.{no_access, no_owner, own}
 use Rattle.memory.proofs.kept.ServedLists.{serves_one, serves_all}
+use Rattle.memory.proofs.kept.Sets.{facts}
 
 module _ {W : Type 0} {n : ℕ} {v : W} {p : Page W} (i : Inv n v p) where
   abbrev free : (u : ℕ) → busy (p.journey u) ≡ false → p.waits u ≡ []

@@ -1,12 +1,12 @@
 -- A bag whose messages stand at places, at most one at each, is no larger than the places.
-use Rattle.memory.proofs.model.Kit.{is_it, Maybe, absent, just}
 use Rattle.std.proofs.Common.{◌≡◌, ℕ, ◌+◌, ◌<◌, ◌≤◌, Bool, true, false, sym, ap, ◌∙◌, inl, inr, arith}
+use Rattle.std.proofs.lemmas.Bool.Decides.{nat_tests}
+use Rattle.std.proofs.lemmas.Bool.{cases_eq, cases_Bool}
 use mathlib.Core.HLevel.{is_prop→PathP}
 use native.Mathlib.Bridge.{le_prop}
-use Rattle.std.proofs.lemmas.Bool.{cases_eq, cases_Bool}
-use Rattle.std.proofs.lemmas.Bool.Decides.{nat_tests}
-use Rattle.memory.proofs.model.Sums.{upd, sum_to, bit}
 use Rattle.wire.specs.Bags.{Bag, empty, ◌&◌, either_order, total, size}
+use Rattle.memory.proofs.model.Kit.{is_it, Maybe, absent, just}
+use Rattle.memory.proofs.model.Sums.{upd, sum_to, bit}
 use Rattle.memory.proofs.kept.Sums.{upd_same, upd_other, sum_one}
 
 abbrev pub some : {X : Type 0} → Maybe X → Bool

@@ -1,15 +1,15 @@
 -- A copy or a grant comes: what is kept of the page stays so.
-use Rattle.memory.proofs.kept.CopySets.{granted_in}
 use Rattle.std.proofs.Common.{◌≡◌, ℕ, ◌<◌, true, sym, refl, ap, subst, arith}
+use Rattle.memory.proofs.model.Invariant.{Core}
+use Rattle.memory.proofs.model.Page.{Mark, deferred, acked, home, copied, granted, clearing, Page, busy, rooted, is_queued, mark, view}
 use Rattle.memory.proofs.model.Sets.{has, Boards}
-use Rattle.memory.proofs.kept.Sets.{facts}
+use Rattle.memory.proofs.model.Steps.{copy_came, copy_dropped, grant_came}
 use Rattle.memory.proofs.model.Sums.{upd}
 use Rattle.memory.proofs.model.Tree as tree
-use Rattle.memory.proofs.model.Page.{Mark, deferred, acked, home, copied, granted, clearing, Page, busy, rooted, is_queued, mark, view}
-use Rattle.memory.proofs.model.Invariant.{Core}
-use Rattle.memory.proofs.kept.Waiting.{others_stay, told_after}
+use Rattle.memory.proofs.kept.CopySets.{granted_in}
 use Rattle.memory.proofs.kept.HintTree.{close_kept, state_path}
-use Rattle.memory.proofs.model.Steps.{copy_came, copy_dropped, grant_came}
+use Rattle.memory.proofs.kept.Sets.{facts}
+use Rattle.memory.proofs.kept.Waiting.{others_stay, told_after}
 
 module _ {W : Type 0} (n : ℕ) (v : W) (p : Page W) (i : Core n v p) where
   -- a copy comes

@@ -1,15 +1,15 @@
--- A request arrives: it joins the waiting list of a board with an access open, or is served.
+-- A request arrives: it joins those that wait, where an access is open, or is served.
 use Rattle.std.proofs.Common.{◌≡◌, ℕ, Bool, true, [], ◌∷◌, refl, ap, inl, arith}
-use Rattle.memory.proofs.kept.Sets.{facts}
-use Rattle.memory.proofs.model.Sums.{upd, bit}
+use Rattle.wire.specs.Bags.{Bag}
 use Rattle.memory.proofs.model.Board.{Kind, Req, Entry, Mail, request, serve_entry, serve_mail}
+use Rattle.memory.proofs.model.Invariant.{Inv}
+use Rattle.memory.proofs.model.Kit.{absent, just, Stage, closed, asked, clears, Post, Kit, replies, arrive, mail_of, is_it, stage_of, Told, Equality, Seat, open_on, with_waiting}
 use Rattle.memory.proofs.model.Page.{home, asking, queued, Page, busy}
 use Rattle.memory.proofs.model.Steps.{served, nothing, moves, joined, joins}
-use Rattle.memory.proofs.model.Invariant.{Inv}
-use Rattle.wire.specs.Bags.{Bag}
-use Rattle.memory.proofs.model.Kit.{absent, just, Stage, closed, asked, clears, Post, Kit, replies, arrive, mail_of, is_it, stage_of, Told, Equality, Seat, open_on, with_waiting}
+use Rattle.memory.proofs.model.Sums.{upd, bit}
 use Rattle.memory.proofs.kept.DeliverySteps.{Sim, replace, mails_after, Takes, arrives_is}
 use Rattle.memory.proofs.kept.ServedTold.{changes_calm, serve_told}
+use Rattle.memory.proofs.kept.Sets.{facts}
 
 module _ {W : Type 0} (same : Mail W → Mail W → Bool) (law : Equality same) (n : ℕ) (k : Kit W) (pages : ℕ → Page W) (t : Told same k pages) (p : ℕ) (rest : Bag (Post W)) where
   arrive_busy : (u a h : ℕ) (d : Kind) (s : Seat W) (e : Entry W) (st : Stage) → (st ≡ closed → ⊥) → arrive n u s e (request d u a h) st ≡ replies (with_waiting s (record { asker = a; kind = d; hops = h })) e [] nothing

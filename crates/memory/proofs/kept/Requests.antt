@@ -1,18 +1,18 @@
--- A request comes, and waits, or is passed on, answered by a copy or answered by a grant: what is kept of the page stays so.
+-- A request joins those that wait, or is passed on, answered by a copy or answered by a grant: what is kept of the page stays so.
 use Rattle.std.proofs.Common.{◌≡◌, ℕ, ◌<◌, true, List, sym, refl, ap, ◌∙◌, subst, arith, [], ◌∷◌, ◌++◌}
-use Rattle.memory.proofs.kept.Sets.{facts}
-use Rattle.memory.proofs.model.Sums.{upd, bit}
-use Rattle.memory.proofs.model.Tree as tree
+use Rattle.std.proofs.ByRecursion.{All-push}
 use Rattle.std.specs.List.{AllByRecursion as All}
 use Rattle.memory.proofs.model.Board.{Kind, load, store, Req}
-use Rattle.memory.proofs.model.Page.{Journey, home, queued, Page, busy, place, queued_at, view, At, occ, asking, is_queued}
 use Rattle.memory.proofs.model.Invariant.{Core}
-use Rattle.memory.proofs.kept.Waiting.{others_stay, told_after, occ_push}
-use Rattle.memory.proofs.kept.HintTree.{forward_kept, grant_kept, state_path}
+use Rattle.memory.proofs.model.Page.{Journey, home, queued, Page, busy, place, queued_at, view, At, occ, asking, is_queued}
 use Rattle.memory.proofs.model.Steps.{passed_on, copied_to, granted_to, joined}
-use Rattle.std.proofs.ByRecursion.{All-push}
-use Rattle.memory.proofs.kept.Sums.{upd_same, upd_both}
+use Rattle.memory.proofs.model.Sums.{upd, bit}
+use Rattle.memory.proofs.model.Tree as tree
+use Rattle.memory.proofs.kept.HintTree.{forward_kept, grant_kept, state_path}
 use Rattle.memory.proofs.kept.Roots.{own, no_owner}
+use Rattle.memory.proofs.kept.Sets.{facts}
+use Rattle.memory.proofs.kept.Sums.{upd_same, upd_both}
+use Rattle.memory.proofs.kept.Waiting.{others_stay, told_after, occ_push}
 
 module _ {W : Type 0} (n : ℕ) (v : W) (p : Page W) (i : Core n v p) where
   -- it waits, where an access is open
@@ -50,7 +50,7 @@ module _ {W : Type 0} (n : ℕ) (v : W) (p : Page W) (i : Core n v p) (u a h : �
   pub asker_in : a < n
   asker_in = (i.ways.askers a at_busy).in_range
 
-  pub place_in : u < n
+  place_in : u < n
   place_in = rw (at_place a (p.entry a).hint) at (i.ways.inside a asker_in)
 
   -- the code tests whether u hints at itself: that says that u is the root

@@ -1,10 +1,10 @@
 -- Who owns a page: of the boards with nothing open, the page's root alone hints at itself.
 use Rattle.std.proofs.Common.{◌≡◌, ℕ, ◌<◌, ap, ◌∙◌, arith}
-use Rattle.memory.proofs.kept.Sets.{facts}
-use Rattle.memory.proofs.kept.Following.{reach_fixed}
 use Rattle.memory.proofs.model.Board.{none}
 use Rattle.memory.proofs.model.Invariant.{Core}
 use Rattle.memory.proofs.model.Page.{home, Page, place}
+use Rattle.memory.proofs.kept.Following.{reach_fixed}
+use Rattle.memory.proofs.kept.Sets.{facts}
 
 module _ {W : Type 0} (n : ℕ) (v : W) (p : Page W) (i : Core n v p) where
   pub own : (a : ℕ) → a < n → p.journey a ≡ home → (p.entry a).hint ≡ a → a ≡ p.root

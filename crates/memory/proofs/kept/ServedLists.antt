@@ -1,15 +1,15 @@
--- A request that is served, and a whole waiting list that is: what is kept of the page stays so.
-use Rattle.memory.proofs.kept.Waiting.{popped, others_told}
+-- A request is served, and a whole waiting list is: what is kept of the page stays so.
 use Rattle.std.proofs.Common.{◌≡◌, ℕ, true, false, List, [], refl, ap, ◌∙◌, inl, inr, arith}
 use Rattle.std.proofs.lemmas.Bool.{cases_eq}
-use Rattle.memory.proofs.kept.Sets.{facts}
-use Rattle.memory.proofs.model.Sums.{upd, bit}
 use Rattle.std.specs.List.{AllByRecursion as All}
 use Rattle.memory.proofs.model.Board.{load, store, Req}
-use Rattle.memory.proofs.model.Page.{home, queued, Page, busy, queued_at, occ}
 use Rattle.memory.proofs.model.Invariant.{Core, Inv}
+use Rattle.memory.proofs.model.Page.{home, queued, Page, busy, queued_at, occ}
 use Rattle.memory.proofs.model.Steps.{Serves, passes, copies_it, grants, Serving, empty, one}
+use Rattle.memory.proofs.model.Sums.{upd, bit}
 use Rattle.memory.proofs.kept.Requests.{passes_core, copies_core, grants_core}
+use Rattle.memory.proofs.kept.Sets.{facts}
+use Rattle.memory.proofs.kept.Waiting.{popped, others_told}
 
 -- what one served request leaves as it was
 pub record Served {W : Type 0} (n : ℕ) (v : W) (p : Page W) (u a : ℕ) (ws : ℕ → List Req) (q : Page W) : Type 0 where

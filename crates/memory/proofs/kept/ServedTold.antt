@@ -1,21 +1,21 @@
 -- A board of a kit serves a request, or its whole waiting list, as its page does.
 use Rattle.std.proofs.Common.{◌≡◌, ℕ, ◌+◌, Bool, true, false, List, [], ◌∷◌, refl, ap, ◌∙◌, inl, inr, arith}
 use Rattle.std.proofs.lemmas.Bool.{cases_eq}
-use Rattle.memory.proofs.model.Sets.{put}
-use Rattle.memory.proofs.kept.Sets.{facts}
-use Rattle.memory.proofs.model.Sums.{upd, bit}
 use Rattle.std.specs.List.{AllByRecursion as All}
 use Rattle.memory.proofs.model.Board.{Kind, load, store, Req, Entry, Mail, request, copy, grant, serve_entry, serve_mail, serve_entries, serve_mails}
-use Rattle.memory.proofs.model.Page.{Journey, home, asking, queued, copied, granted, Page, busy, far, queued_at, mark_of, mark, At, occ}
-use Rattle.memory.proofs.model.Steps.{passed_on, copied_to, granted_to, Serves, passes, copies_it, grants, Serving, empty, one}
 use Rattle.memory.proofs.model.Invariant.{Core}
 use Rattle.memory.proofs.model.Kit.{Maybe, absent, just, mail_of, is_it, stage_of, deferral_of, flies, requests, Equality}
+use Rattle.memory.proofs.model.Page.{Journey, home, asking, queued, copied, granted, Page, busy, far, queued_at, mark_of, mark, At, occ}
+use Rattle.memory.proofs.model.Sets.{put}
+use Rattle.memory.proofs.model.Steps.{passed_on, copied_to, granted_to, Serves, passes, copies_it, grants, Serving, empty, one}
+use Rattle.memory.proofs.model.Sums.{upd, bit}
+use Rattle.memory.proofs.kept.DeliverySteps.{replace}
 use Rattle.memory.proofs.kept.Messages.{listed}
 use Rattle.memory.proofs.kept.Requests.{owner as owner_root}
 use Rattle.memory.proofs.kept.ServedLists.{serves_one}
-use Rattle.memory.proofs.kept.Waiting.{popped, others_told}
-use Rattle.memory.proofs.kept.DeliverySteps.{replace}
+use Rattle.memory.proofs.kept.Sets.{facts}
 use Rattle.memory.proofs.kept.Sums.{upd_same}
+use Rattle.memory.proofs.kept.Waiting.{popped, others_told}
 
 -- what serving at u changes: u's entry and the messages; the stages, the marks and the deferrals stay
 pub record Changes {W : Type 0} (same : Mail W → Mail W → Bool) (p q : Page W) (u : ℕ) (e : Entry W) (old : Maybe (Mail W)) (ms : List (Mail W)) : Type 0 where

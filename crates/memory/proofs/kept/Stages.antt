@@ -1,8 +1,8 @@
--- A board's stage, as a page's journey tells it: nothing is open there, and so nothing is on its way, exactly where the stage is closed.
+-- A board's stage beside a page's journey: the board has an access open on the page exactly where its stage there is not closed.
 use Rattle.std.proofs.Common.{◌≡◌, ℕ, true, ◌⊎◌, refl, inl, inr, arith}
-use Rattle.memory.proofs.kept.Sets.{facts}
 use Rattle.memory.proofs.model.Kit.{just, Stage, closed, asked, clears, Seat, Open, open_on, stage_of, op_by}
 use Rattle.memory.proofs.model.Page.{Journey, home, busy}
+use Rattle.memory.proofs.kept.Sets.{facts}
 
 pub stage_cases : (s : Stage) → (s ≡ closed) ⊎ (s ≡ closed → ⊥)
 stage_cases closed = inl refl

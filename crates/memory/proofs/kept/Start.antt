@@ -1,16 +1,16 @@
--- A kit that just started is told by its pages, and has no work left.
-use Rattle.memory.proofs.kept.Sums.{sum_zero}
+-- A kit that just started: what is kept holds of it, and no work is left.
 use Rattle.std.proofs.Common.{◌≡◌, ℕ, ◌<◌, Bool, false, refl, arith}
 use Rattle.std.proofs.lemmas.Bool.{both_ways}
-use Rattle.memory.proofs.kept.Sets.{facts}
 use Rattle.memory.proofs.model.Board.{Mail}
-use Rattle.memory.proofs.model.Page.{start}
 use Rattle.memory.proofs.model.Calls.{first_ledger, first_kit}
-use Rattle.memory.proofs.kept.KitKept.{Kept, left_of}
-use Rattle.memory.proofs.kept.HintTree.{first_inv}
 use Rattle.memory.proofs.model.Invariant.{Inv}
+use Rattle.memory.proofs.model.Page.{start}
+use Rattle.memory.proofs.kept.HintTree.{first_inv}
+use Rattle.memory.proofs.kept.KitKept.{Kept, left_of}
+use Rattle.memory.proofs.kept.Sets.{facts}
+use Rattle.memory.proofs.kept.Sums.{sum_zero}
 
-pub start_inv : {W : Type 0} (n : ℕ) (idle v : W) → 0 < n → Inv n v (start idle v)
+start_inv : {W : Type 0} (n : ℕ) (idle v : W) → 0 < n → Inv n v (start idle v)
 start_inv n idle v l = record {
   core = record {
     ways = first_inv l;
@@ -23,7 +23,6 @@ start_inv n idle v l = record {
   free = λ u e. refl;
 }
 
--- a kit just started
 pub start_kept : {W : Type 0} (same : Mail W → Mail W → Bool) (n : ℕ) (idle : W) (v : ℕ → W) → 0 < n → Kept same n (first_ledger v) (first_kit idle v)
 start_kept same n idle v l = record {
   pages = λ p. start idle (v p);
@@ -35,7 +34,6 @@ start_kept same n idle v l = record {
   bound = λ x. omega arith;
 }
 
--- and nothing is left to do
 pub start_left : {W : Type 0} (same : Mail W → Mail W → Bool) (n : ℕ) (idle : W) (v : ℕ → W) (l : 0 < n) → left_of (start_kept same n idle v l) ≡ 0
 unfolding start_kept
 start_left same n idle v l = sum_zero n (λ x. 0) (λ x. refl)

@@ -1,22 +1,22 @@
--- A grant with no copies out, or the last acknowledgement, arrives: either finishes a store.
-use Rattle.memory.proofs.kept.Below.{none_anywhere, none_true}
-use Rattle.memory.proofs.kept.CopySets.{granted_in}
+-- A store finishes: a grant arrives with no copies out, or the last acknowledgement does.
 use Rattle.std.proofs.Common.{◌≡◌, ℕ, ◌<◌, Bool, true, false, cond, [], sym, refl, ap, ◌∙◌, inl, inr, arith}
 use Rattle.std.proofs.lemmas.Bool.{cases_eq, cases_Bool}
-use Rattle.memory.proofs.model.Sets.{has, Boards, nobody}
-use Rattle.memory.proofs.kept.Sets.{facts}
-use Rattle.memory.proofs.model.Sums.{upd}
-use Rattle.memory.proofs.model.Board.{store, Mail, grant, acknowledge, store_entry, got_grant, serve_entries, serve_mails}
-use Rattle.memory.proofs.model.Page.{Mark, unmarked, acked, home, granted, clearing, Page, awaits, busy, far, rooted, mark}
-use Rattle.memory.proofs.model.Steps.{stored_at, Stores, grant_free, last_ack, nothing, written_at, stores}
-use Rattle.memory.proofs.model.Invariant.{Holders, Inv}
 use Rattle.wire.specs.Bags.{Bag}
+use Rattle.memory.proofs.model.Board.{store, Mail, grant, acknowledge, store_entry, got_grant, serve_entries, serve_mails}
+use Rattle.memory.proofs.model.Invariant.{Holders, Inv}
 use Rattle.memory.proofs.model.Kit.{absent, just, asked, clears, Post, Kit, refused, replies, none_below, invalidates, vacant, with_awaited, finish, mail_of, stage_of, deferral_of, Told, Equality}
-use Rattle.memory.proofs.kept.Sums.{upd_same}
-use Rattle.memory.proofs.kept.PageKept.{ready_core, stores_ready}
+use Rattle.memory.proofs.model.Page.{Mark, unmarked, acked, home, granted, clearing, Page, awaits, busy, far, rooted, mark}
+use Rattle.memory.proofs.model.Sets.{has, Boards, nobody}
+use Rattle.memory.proofs.model.Steps.{stored_at, Stores, grant_free, last_ack, nothing, written_at, stores}
+use Rattle.memory.proofs.model.Sums.{upd}
+use Rattle.memory.proofs.kept.Below.{none_anywhere, none_true}
+use Rattle.memory.proofs.kept.CopySets.{granted_in}
 use Rattle.memory.proofs.kept.DeliverySteps.{Sim, replace, Takes, arrives_is, here_is}
-use Rattle.memory.proofs.kept.ServedTold.{changes_calm, serve_list_told, done_asks, done_hops}
 use Rattle.memory.proofs.kept.Finishing.{finish_told}
+use Rattle.memory.proofs.kept.PageKept.{ready_core, stores_ready}
+use Rattle.memory.proofs.kept.ServedTold.{changes_calm, serve_list_told, done_asks, done_hops}
+use Rattle.memory.proofs.kept.Sets.{facts}
+use Rattle.memory.proofs.kept.Sums.{upd_same}
 
 module _ {W : Type 0} (same : Mail W → Mail W → Bool) (law : Equality same) (n : ℕ) (v : W) (k : Kit W) (pages : ℕ → Page W) (t : Told same k pages) (p : ℕ) (i : Inv n v (pages p)) (rest : Bag (Post W)) where
   abbrev P : Page W

@@ -1,7 +1,7 @@
 -- A function changed at one number, and sums and counts over the numbers below n.
 use Rattle.std.proofs.Common.{◌≡◌, ℕ, zero, suc, ◌+◌, ◌*◌, ◌<◌, ◌≤◌, Bool, true, false, eqb, sym, refl, ap, ◌∙◌, inl, inr, arith}
-use Rattle.std.proofs.lemmas.Bool.{cases_eq, cond-true, cond-false, eq-eqb, ne_eqb}
 use Rattle.std.proofs.lemmas.Bool.Decides.{nat_tests}
+use Rattle.std.proofs.lemmas.Bool.{cases_eq, cond-true, cond-false, eq-eqb, ne_eqb}
 use Rattle.memory.proofs.model.Sums.{upd, sum_to, bit, count}
 
 pub upd_same : {X : Type 0} (f : ℕ → X) (i : ℕ) (v : X) → upd f i v i ≡ v
@@ -18,7 +18,7 @@ upd_both P f i v x this that = elim (cases_eq x i) [ inl p ↦ rw (p, upd_same f
 pub upd_self_at : {X : Type 0} (f : ℕ → X) (b : ℕ) (v : X) → v ≡ f b → (x : ℕ) → upd f b v x ≡ f x
 upd_self_at f b v e x = grind (arith, nat_tests)
 
-pub sum_same : (n : ℕ) (f g : ℕ → ℕ) → ((x : ℕ) → x < n → g x ≡ f x) → sum_to n g ≡ sum_to n f
+sum_same : (n : ℕ) (f g : ℕ → ℕ) → ((x : ℕ) → x < n → g x ≡ f x) → sum_to n g ≡ sum_to n f
 sum_same zero f g h = refl
 sum_same (suc n) f g h = omega (arith, h n (omega arith), sum_same n f g (λ x l. h x (omega arith)))
 
@@ -58,7 +58,7 @@ pub sum_zero : (n : ℕ) (f : ℕ → ℕ) → ((s : ℕ) → f s ≡ 0) → sum
 sum_zero zero f h = refl
 sum_zero (suc n) f h = omega (arith, h n, sum_zero n f h)
 
-pub count_le : (n : ℕ) (p : ℕ → Bool) → count n p ≤ n
+count_le : (n : ℕ) (p : ℕ → Bool) → count n p ≤ n
 count_le zero p = omega arith
 count_le (suc n) p = grind (arith, count_le n p)
 

@@ -1,13 +1,13 @@
--- Requests that wait at boards: how often a board's stands in a list, and that the others wait on when one journey changes.
+-- The requests that wait at boards: how often a board has one there, and that the others wait on when one journey changes.
 use Rattle.std.proofs.Common.{◌≡◌, ℕ, ◌+◌, false, eqb, List, [], ◌∷◌, ◌++◌, ap, ◌∙◌, arith}
 use Rattle.std.proofs.lemmas.Bool.Decides.{nat_tests}
 use Rattle.std.specs.List.{AllByRecursion as All}
-use Rattle.memory.proofs.kept.Sets.{facts}
-use Rattle.memory.proofs.kept.Sums.{upd_other, upd_both}
 use Rattle.memory.proofs.model.Board.{Req}
 use Rattle.memory.proofs.model.Invariant.{Core}
 use Rattle.memory.proofs.model.Page.{Journey, home, queued, Page, is_queued, queued_at, occ}
 use Rattle.memory.proofs.model.Sums.{upd, bit}
+use Rattle.memory.proofs.kept.Sets.{facts}
+use Rattle.memory.proofs.kept.Sums.{upd_other, upd_both}
 
 pub occ_push : (b : ℕ) (a : Req) (xs : List Req) → occ b (xs ++ a ∷ []) ≡ occ b xs + bit (eqb a.asker b)
 occ_push b a [] = omega arith

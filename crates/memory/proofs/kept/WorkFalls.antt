@@ -1,35 +1,32 @@
 -- Each delivery takes from the work that is left on its page, and an access that opens adds no more than its bound.
-use Rattle.memory.proofs.kept.CopySets.{copies_in}
-use Rattle.memory.proofs.kept.Sums.{count_room_one, upd_same, upd_other, sum_one, count_room}
 use Rattle.std.proofs.Common.{◌≡◌, ℕ, zero, suc, ◌+◌, ◌*◌, ◌<◌, ◌≤◌, true, false, List, refl, ap, arith}
 use Rattle.std.proofs.lemmas.Bool.{cases_Bool}
-use Rattle.memory.proofs.model.Sets.{has, put, Boards}
-use Rattle.memory.proofs.kept.Sets.{facts}
-use Rattle.memory.proofs.model.Sums.{upd, bit, sum_to, count}
 use Rattle.std.specs.List.{AllByRecursion as All}
 use Rattle.memory.proofs.model.Board.{Kind, load, store, Req}
-use Rattle.memory.proofs.model.Page.{Mark, unmarked, deferred, acked, home, asking, queued, clearing, Page, awaits, busy, far, rooted, queued_at, At, occ, marks}
 use Rattle.memory.proofs.model.Invariant.{Holders, Core, Inv}
-use Rattle.memory.proofs.model.Steps.{stored_at, Serves, passes, copies_it, grants, Serving, empty, one, Call, ask_load, ask_store, clear, Move, joins, served, grant_in, defers, drops, acks, Loaded, copy_in, copy_then_drop, Stores, grant_free, last_ack, Answer, Delivery, moves, loads, stores}
-use Rattle.memory.proofs.model.Weights.{heft, weight, Falls, Opens}
+use Rattle.memory.proofs.model.Page.{Mark, unmarked, deferred, acked, home, asking, queued, clearing, Page, awaits, busy, far, rooted, queued_at, At, occ, marks}
+use Rattle.memory.proofs.model.Sets.{has, put, Boards}
+use Rattle.memory.proofs.model.Steps.{copy_came, copy_dropped, stored_at, Serves, passes, copies_it, grants, Serving, empty, one, Call, ask_load, ask_store, clear, Move, joins, served, grant_in, defers, drops, acks, Loaded, copy_in, copy_then_drop, Stores, grant_free, last_ack, Answer, Delivery, moves, loads, stores}
+use Rattle.memory.proofs.model.Sums.{upd, bit, sum_to, count}
+use Rattle.memory.proofs.model.Weights.{heft, weight, NoneHeavier, Falls, Opens}
+use Rattle.memory.proofs.kept.CopySets.{copies_in}
+use Rattle.memory.proofs.kept.PageKept.{loaded_core, ready_core, stores_ready}
 use Rattle.memory.proofs.kept.Requests.{asker_in, owner}
 use Rattle.memory.proofs.kept.Roots.{no_access, own}
 use Rattle.memory.proofs.kept.ServedLists.{serves_one}
+use Rattle.memory.proofs.kept.Sets.{facts}
+use Rattle.memory.proofs.kept.Sums.{count_room_one, upd_same, upd_other, sum_one, count_room}
 use Rattle.memory.proofs.kept.Waiting.{popped, others_told}
-use Rattle.memory.proofs.kept.PageKept.{loaded_core, ready_core, stores_ready}
 
 -- one mark changed
-pub heft_one : (n x : ℕ) (m : ℕ → Mark) (t : Mark) → x < n → sum_to n (λ y. heft (upd m x t y)) + heft (m x) ≡ sum_to n (λ y. heft (m y)) + heft t
+heft_one : (n x : ℕ) (m : ℕ → Mark) (t : Mark) → x < n → sum_to n (λ y. heft (upd m x t y)) + heft (m x) ≡ sum_to n (λ y. heft (m y)) + heft t
 heft_one n x m t l = omega (arith, sum_one n x (λ y. heft (m y)) (λ y. heft (upd m x t y)) l (λ y ne. ap heft (upd_other m x t y ne)), ap heft (upd_same m x t))
 
-pub heft_marks : (n : ℕ) (c : Boards) → sum_to n (λ y. heft (marks c y)) ≡ 2 * count n (has c)
+heft_marks : (n : ℕ) (c : Boards) → sum_to n (λ y. heft (marks c y)) ≡ 2 * count n (has c)
 heft_marks zero c = refl
 heft_marks (suc n) c = grind (arith, heft_marks n c, cases_Bool (has c n))
 
 module _ {W : Type 0} where
-  pub record NoneHeavier (n : ℕ) (p q : Page W) : Type 0 where
-    pub never : (x : ℕ) → weight n (q.journey x) ≤ weight n (p.journey x)
-
   -- a request of a, served: no journey gets heavier, and where it was on its way a's gets lighter
   module _ {n : ℕ} {v : W} {p : Page W} (i : Core n v p) (u a : ℕ) (ws : ℕ → List Req) (e : p.journey u ≡ home) (rest : (w b : ℕ) → occ b (ws w) ≡ bit (queued_at w (upd p.journey a home b))) (stays : (w : ℕ) → All (λ (r : Req). p.journey r.asker ≡ queued r.kind w r.hops) (ws w)) where
     bound : (k : Kind) (h : ℕ) → At (p.journey a) k u h → h + 2 ≤ n
@@ -43,23 +40,23 @@ module _ {W : Type 0} where
         let lacks : has (p.entry u).copies u ≡ false = grind (arith, facts, o.exact u) in
         count_room n u a (has (put (p.entry u).copies a false)) (omega (arith, i.ways.root_in)) in_a (λ s. grind arith) (grind (arith, facts)) (grind (arith, facts))
 
-    pub serves_light : {q : Page W} → Serves p u a ws q → NoneHeavier n p q
-    serves_light (passes k h at ne) = let b = bound k h at in record { never = λ x. grind (arith, facts) }
-    serves_light (copies_it h at q) = let b = bound load h at in record { never = λ x. grind (arith, facts) }
-    serves_light (grants h at q) = let b = bound store h at in let c = room h at q in record { never = λ x. grind (arith, facts) }
+    serves_light : {q : Page W} → Serves p u a ws q → NoneHeavier n p q
+    serves_light (passes k h at ne) = let b = bound k h at in λ x. grind (arith, facts)
+    serves_light (copies_it h at q) = let b = bound load h at in λ x. grind (arith, facts)
+    serves_light (grants h at q) = let b = bound store h at in let c = room h at q in λ x. grind (arith, facts)
 
-    pub serves_less : {q : Page W} (k : Kind) (h : ℕ) → p.journey a ≡ asking k u h → Serves p u a ws q → weight n (q.journey a) < weight n (p.journey a)
+    serves_less : {q : Page W} (k : Kind) (h : ℕ) → p.journey a ≡ asking k u h → Serves p u a ws q → weight n (q.journey a) < weight n (p.journey a)
     serves_less k h is (passes l g at ne) = let b = bound l g at in grind (arith, facts)
     serves_less k h is (copies_it g at q) = let b = bound load g at in grind (arith, facts)
     serves_less k h is (grants g at q) = let b = bound store g at in let c = room g at q in grind (arith, facts)
 
-  pub serving_light : {n : ℕ} {v : W} (u : ℕ) {p s : Page W} → Core n v p → p.journey u ≡ home → Serving u p s → NoneHeavier n p s
-  serving_light u i e (empty _) = record { never = λ x. omega arith }
+  serving_light : {n : ℕ} {v : W} (u : ℕ) {p s : Page W} → Core n v p → p.journey u ≡ home → Serving u p s → NoneHeavier n p s
+  serving_light u i e (empty _) = λ x. omega arith
   serving_light {n} {v} u {p} i e (one {q = q} {s = s} r rest is this more) =
       let k = serves_one i u r.asker (upd p.waits u rest) e (popped i u r rest is) (others_told i u r rest is) this in
       let l = serves_light i u r.asker (upd p.waits u rest) e (popped i u r rest is) (others_told i u r rest is) this in
       let m = serving_light u k.core k.still more in
-      record { never = λ x. omega (arith, l.never x, m.never x) }
+      λ x. omega (arith, l x, m x)
 
   module _ {n : ℕ} {v : W} {p : Page W} (i : Inv n v p) where
     abbrev o : Holders n p
@@ -84,7 +81,7 @@ module _ {W : Type 0} where
     move_falls (served {q} a u h k e is this) =
         let rest : (w b : ℕ) → occ b (p.waits w) ≡ bit (queued_at w (upd p.journey a home b)) = λ w b. grind (arith, facts, i.core.lists w b) in
         record {
-          never = (serves_light i.core u a p.waits is rest i.core.told this).never;
+          never = serves_light i.core u a p.waits is rest i.core.told this;
           who = a;
           who_in = in_range a (ap busy e);
           lighter = serves_less i.core u a p.waits is rest i.core.told k h e this;
@@ -96,31 +93,31 @@ module _ {W : Type 0} where
 
     falls_then : {q s : Page W} → Falls n p q → NoneHeavier n q s → Falls n p s
     falls_then f l = record {
-      never = λ x. omega (arith, f.never x, l.never x);
+      never = λ x. omega (arith, f.never x, l x);
       who = f.who;
       who_in = f.who_in;
-      lighter = omega (arith, f.lighter, l.never f.who);
+      lighter = omega (arith, f.lighter, l f.who);
     }
 
     loaded_falls : (a h : ℕ) (w : W) {q s : Page W} → Loaded p a h w q → Serving a q s → Falls n p s
     loaded_falls a h w (copy_in s e ne) more =
-        falls_then
+        falls_then {q = copy_came p a s w}
         (record { never = λ x. grind (arith, facts); who = a; who_in = in_range a (ap busy e); lighter = grind (arith, facts) })
         (serving_light a (loaded_core i a h w (copy_in s e ne)) (grind (arith, facts)) more)
     loaded_falls a h w (copy_then_drop s c g m e k is) more =
         let same = heft_one n a m acked (in_range a (ap busy e)) in
-        falls_then
+        falls_then {q = copy_dropped p a s w c g m}
         (record { never = λ x. grind (arith, facts); who = a; who_in = in_range a (ap busy e); lighter = grind (arith, facts) })
         (serving_light a (loaded_core i a h w (copy_then_drop s c g m e k is)) (grind (arith, facts)) more)
 
     stored_falls : (a h : ℕ) (w : W) (f : W → W) {s : Page W} → Stores p a h w → Serving a (stored_at p a (f w)) s → Falls n p s
     stored_falls a h w f (grant_free s c e is) more =
-        falls_then
+        falls_then {q = stored_at p a (f w)}
         (record { never = λ x. grind (arith, facts); who = a; who_in = in_range a (ap busy e); lighter = grind (arith, facts) })
         (serving_light a (ready_core i a h w f (stores_ready i a h w (grant_free s c e is))) (grind (arith, facts)) more)
     stored_falls a h w f (last_ack x m e is others same) more =
         let k = heft_one n x m unmarked (marked_in a x h m e (ap awaits is)) in
-        falls_then
+        falls_then {q = stored_at p a (f w)}
         (record { never = λ x. grind (arith, facts); who = a; who_in = in_range a (ap busy e); lighter = grind (arith, facts) })
         (serving_light a (ready_core i a h w f (stores_ready i a h w (last_ack x m e is others same))) (grind (arith, facts)) more)
 

@@ -1,15 +1,15 @@
 -- The work that is left: none is where nothing is open, and each open access has no more than its bound.
-use Rattle.memory.proofs.kept.Sums.{sum_part, sum_times, sum_le}
 use Rattle.std.proofs.Common.{◌≡◌, ℕ, ◌-◌, ◌*◌, ◌<◌, ◌≤◌, Bool, true, sym, refl, ap, ◌∙◌, inl, inr, arith}
-use Rattle.memory.proofs.model.Sums.{bit, sum_to}
 use Rattle.memory.proofs.model.Board.{Mail}
-use Rattle.memory.proofs.model.Page.{Mark, Journey, home, asking, queued, copied, granted, clearing, Page, awaits, busy, far, rooted, is_clearing, mark_of, mark}
+use Rattle.memory.proofs.model.Calls.{Ledger, is_open, opens_count}
 use Rattle.memory.proofs.model.Invariant.{Inv}
 use Rattle.memory.proofs.model.Kit.{absent, Stage, closed, Kit, op_by}
+use Rattle.memory.proofs.model.Page.{Mark, Journey, home, asking, queued, copied, granted, clearing, Page, awaits, busy, far, rooted, is_clearing, mark_of, mark}
+use Rattle.memory.proofs.model.Sums.{bit, sum_to}
 use Rattle.memory.proofs.model.Weights.{weight, heft}
-use Rattle.memory.proofs.model.Calls.{Ledger, is_open, opens_count}
 use Rattle.memory.proofs.kept.KitKept.{Kept, left_of, shut_absent, open_journey}
 use Rattle.memory.proofs.kept.Stages.{stage_cases, open_here, closed_home}
+use Rattle.memory.proofs.kept.Sums.{sum_part, sum_times, sum_le}
 
 -- an open access weighs something
 clearing_heavy : (n y : ℕ) (m : ℕ → Mark) → y < n → awaits (m y) ≡ true → 0 < sum_to n (λ x. heft (m x))
@@ -34,7 +34,7 @@ module _ {W : Type 0} {same : Mail W → Mail W → Bool} {n : ℕ} {l : Ledger 
   abbrev here : ℕ → Journey W
   here x = (i.pages (k.board x).seat.page).journey x
 
-  -- with nothing left to do nothing is open
+  -- with no work left nothing is open
   pub none_left : left_of i ≡ 0 → (x : ℕ) → l.opens x ≡ absent
   none_left z x = elim (stage_cases (k.board x).seat.stage) [
     | inl c ↦ shut_absent i x c
@@ -46,7 +46,7 @@ module _ {W : Type 0} {same : Mail W → Mail W → Bool} {n : ℕ} {l : Ledger 
         omega arith)
   ]
 
-  -- what is left is at most so much for each open access
+  -- the work left is at most 3 n - 4 for each open access
   pub left_bound : left_of i ≤ (3 * n - 4) * opens_count n l
   left_bound = omega (arith, sum_le n (λ x. weight n (here x)) (λ x. (3 * n - 4) * bit (is_open (l.opens x))) (λ x _. each_bound x), sum_times n (3 * n - 4) (λ x. bit (is_open (l.opens x))))
     where

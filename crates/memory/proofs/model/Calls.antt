@@ -1,12 +1,12 @@
 -- Calls on a kit: what each does, what it says, what the ledger is after it, and whether its answer is right by the ledger before.
 use Rattle.std.specs.Prelude.{◌≡◌, ℕ, ◌+◌, ◌-◌, ◌<◌, ◌≤◌, Bool, true, false, cond, ◌⊎◌, List, [], ◌∷◌, ◌==◌, ◌≢◌}
-use Rattle.memory.proofs.model.Sets.{has, nobody}
-use Rattle.memory.proofs.model.Sums.{upd, sum_to, bit}
 use Rattle.wire.specs.Bags.{Bag, empty, ◌&◌}
 use Rattle.memory.proofs.model.Board.{none, write, load, store, Mail, request, store_entry}
-use Rattle.memory.proofs.model.Page.{is_none}
-use Rattle.memory.proofs.model.Steps.{Answer, nothing, read_at, written_at}
 use Rattle.memory.proofs.model.Kit.{Maybe, absent, just, closed, asked, clears, Post, Kit, Reply, refused, replies, none_below, invalidates, to, becomes, arrives, opened_seat, requests, Open, op_load, op_store}
+use Rattle.memory.proofs.model.Page.{is_none}
+use Rattle.memory.proofs.model.Sets.{has, nobody}
+use Rattle.memory.proofs.model.Steps.{Answer, nothing, read_at, written_at}
+use Rattle.memory.proofs.model.Sums.{upd, sum_to, bit}
 
 pub data Order (W : Type 0) : Type 0 where
   call_load : (board page : ℕ) → Order W

@@ -1,10 +1,10 @@
 -- What is kept of a page by every step.
 use Rattle.std.specs.Prelude.{◌≡◌, ℕ, ◌<◌, true, false, []}
-use Rattle.memory.proofs.model.Sums.{bit}
-use Rattle.memory.proofs.model.Tree as tree
 use Rattle.std.specs.List.{AllByRecursion as All}
 use Rattle.memory.proofs.model.Board.{Req}
 use Rattle.memory.proofs.model.Page.{deferred, queued, Page, is_none, is_write, awaits, busy, rooted, is_clearing, is_granted, loading, queued_at, Carries, mark, cover, holder, view, occ}
+use Rattle.memory.proofs.model.Sums.{bit}
+use Rattle.memory.proofs.model.Tree as tree
 
 module _ {W : Type 0} where
   -- the page has one root; only the root owns it, and what it covers is who holds the page

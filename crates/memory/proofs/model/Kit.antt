@@ -1,11 +1,11 @@
 -- A kit of boards over a bag of messages: what a board does with a message, and how its state is told by its pages.
 use Rattle.std.specs.Prelude.{◌≡◌, ℕ, zero, suc, ◌+◌, Bool, true, false, cond, ◌&&◌, List, [], ◌∷◌, ◌++◌, ◌==◌}
-use Rattle.memory.proofs.model.Sets.{has, Boards}
-use Rattle.memory.proofs.model.Sums.{upd, bit}
 use Rattle.wire.specs.Bags.{Bag, ◌&◌, total}
 use Rattle.memory.proofs.model.Board.{Kind, load, store, is_load, Req, Entry, Mail, request, copy, grant, invalidate, acknowledge, got_copy, drop_entry, store_entry, got_grant, serve_entry, serve_mail, serve_entries, serve_mails}
 use Rattle.memory.proofs.model.Page.{Mark, unmarked, sent, deferred, acked, Journey, home, asking, queued, copied, granted, clearing, Page, awaits, mark_of, mark}
+use Rattle.memory.proofs.model.Sets.{has, Boards}
 use Rattle.memory.proofs.model.Steps.{Answer, nothing, read_at, written_at}
+use Rattle.memory.proofs.model.Sums.{upd, bit}
 
 pub data Maybe (X : Type 0) : Type 0 where
   absent : Maybe X

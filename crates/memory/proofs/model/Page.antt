@@ -1,9 +1,9 @@
 -- One page: what each board's table says of it, and where each board's open access on it is.
 use Rattle.std.specs.Prelude.{◌≡◌, ℕ, ◌+◌, Bool, true, false, cond, ◌⊎◌, List, [], ◌∷◌, ◌==◌}
+use Rattle.memory.proofs.model.Board.{Access, none, read, write, Kind, is_load, Req, Entry}
 use Rattle.memory.proofs.model.Sets.{has, Boards, nobody}
 use Rattle.memory.proofs.model.Sums.{bit, all_below}
 use Rattle.memory.proofs.model.Tree.{State}
-use Rattle.memory.proofs.model.Board.{Access, none, read, write, Kind, is_load, Req, Entry}
 
 pub data Mark : Type 0 where
   unmarked sent deferred acked : Mark

@@ -1,9 +1,9 @@
 -- What may happen to a page: each step as the tables and journeys before and after it, and what it answers.
 use Rattle.std.specs.Prelude.{◌≡◌, ℕ, ◌+◌, ◌-◌, ◌<◌, ◌≤◌, true, false, ◌⊎◌, List, [], ◌∷◌, ◌++◌, ◌≢◌}
-use Rattle.memory.proofs.model.Sets.{has, put, Boards}
-use Rattle.memory.proofs.model.Sums.{upd}
 use Rattle.memory.proofs.model.Board.{none, write, Kind, load, store, Req, pass_entry, copy_entry, grant_entry, got_copy, drop_entry, store_entry, got_grant}
 use Rattle.memory.proofs.model.Page.{Mark, unmarked, sent, deferred, acked, Journey, home, asking, queued, copied, granted, clearing, Page, is_none, awaits, busy, loading, At, marks}
+use Rattle.memory.proofs.model.Sets.{has, put, Boards}
+use Rattle.memory.proofs.model.Sums.{upd}
 
 -- what a step answers
 pub data Answer (W : Type 0) : Type 0 where

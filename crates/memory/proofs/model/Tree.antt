@@ -1,4 +1,4 @@
--- Following `next` from board to board, and the four ways in which it changes.
+-- The tree of hints: following `next` from board to board, the trail of each request, and the four ways in which the hints change.
 use Rattle.std.specs.Prelude.{◌≡◌, ℕ, ◌+◌, ◌<◌, ◌≤◌, Bool, true, false, ◌≢◌}
 use Rattle.memory.proofs.model.Sums.{upd, count}
 

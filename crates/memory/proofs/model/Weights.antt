@@ -1,9 +1,9 @@
 -- How many deliveries an open access may still take: the weight of its journey.
 use Rattle.std.specs.Prelude.{◌≡◌, ℕ, ◌+◌, ◌-◌, ◌*◌, ◌<◌, ◌≤◌, cond, ◌≢◌}
-use Rattle.memory.proofs.model.Sets.{has}
-use Rattle.memory.proofs.model.Sums.{sum_to, count}
 use Rattle.memory.proofs.model.Board.{is_load}
 use Rattle.memory.proofs.model.Page.{Mark, unmarked, sent, deferred, acked, Journey, home, asking, queued, copied, granted, clearing, Page}
+use Rattle.memory.proofs.model.Sets.{has}
+use Rattle.memory.proofs.model.Sums.{sum_to, count}
 
 abbrev pub heft : Mark → ℕ
 heft unmarked = 0
@@ -20,9 +20,13 @@ module _ {W : Type 0} where
   weight n (granted s h c w) = 1 + 2 * count n (has c)
   weight n (clearing h m) = sum_to n (λ x. heft (m x))
 
-  -- no journey gets heavier, and one gets lighter
+  -- no journey gets heavier
+  abbrev pub NoneHeavier : ℕ → Page W → Page W → Type 0
+  NoneHeavier n p q = (x : ℕ) → weight n (q.journey x) ≤ weight n (p.journey x)
+
+  -- and one gets lighter
   pub record Falls (n : ℕ) (p q : Page W) : Type 0 where
-    pub never : (x : ℕ) → weight n (q.journey x) ≤ weight n (p.journey x)
+    pub never : NoneHeavier n p q
     pub who : ℕ
     pub who_in : who < n
     pub lighter : weight n (q.journey who) < weight n (p.journey who)
