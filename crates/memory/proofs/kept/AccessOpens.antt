@@ -32,9 +32,6 @@ module _ {W : Type 0} {same : Mail W → Mail W → Bool} {n : ℕ} {l : Ledger 
   pub home_is : P.journey b ≡ home
   home_is = idle same law n k i.pages i.told b p shut free_is undeferred p
 
-  pub entry_is : (k.board b).entry p ≡ P.entry b
-  entry_is = i.told.entries b p
-
   pub opened_kept : (o : Open W) (st : Stage) (f : W → W) (c : ℕ → Bool) (e : Entry W) (ms : List (Mail W)) (j : Journey W) → op_by st p f ≡ just o → Told same (becomes k b p (opened_seat p st f c) e ms k.link) (upd i.pages p (goes P b j)) → Call n P (goes P b j) → far j ≡ 0 → requests b ms - 1 ≡ 0 → ((x : ℕ) → (x ≡ b → ⊥) → requests x ms ≡ 0) → Kept same n (opening l b o ms) (becomes k b p (opened_seat p st f c) e ms k.link)
   opened_kept o st f c e ms j op u call zero_far none_mine none_else =
       let inv = (step_kept (i.each p) {q = goes P b j} (opens call)).0 in

@@ -8,7 +8,7 @@ use Rattle.memory.proofs.model.Page.{home, asking, clearing, is_none, busy, far,
 use Rattle.memory.proofs.model.Sets.{has}
 use Rattle.memory.proofs.model.Steps.{goes, stored_at, ask_load, ask_store, clear, MayStore, store_now}
 use Rattle.memory.proofs.model.Sums.{upd}
-use Rattle.memory.proofs.kept.AccessOpens.{free_is, undeferred, home_is, entry_is, opened_kept, requests_self}
+use Rattle.memory.proofs.kept.AccessOpens.{free_is, undeferred, home_is, opened_kept, requests_self}
 use Rattle.memory.proofs.kept.Below.{none_anywhere, none_false}
 use Rattle.memory.proofs.kept.CallsTold.{ask_told, clear_told, now_told}
 use Rattle.memory.proofs.kept.CopySets.{copies_in}
@@ -41,7 +41,7 @@ module _ {W : Type 0} {same : Mail W → Mail W → Bool} {n : ℕ} {l : Ledger 
       let has : is_none ((i.pages p).entry b).access ≡ false = ap (λ (z : Entry W). is_none z.access) (sym t) ∙ a in
       (nothing_new i, ap (λ (z : Entry W). z.words) t ∙ (i.each p).core.words.table b has)
   does_kept (loads_later b p lt shut a ms e) =
-      let t = entry_is law i b p shut in
+      let t = i.told.entries b p in
       let h = home_is law i b p shut in
       let e' = e ∙ ap (λ (z : Entry W). request load z.hint b 0 ∷ []) t in
       let told = ask_told same law n k i.pages i.told b p shut (free_is law i b p shut) (undeferred law i b p shut) load (λ w. w) in (
@@ -52,7 +52,7 @@ module _ {W : Type 0} {same : Mail W → Mail W → Bool} {n : ℕ} {l : Ledger 
         tt,
       )
   does_kept (stores_later b p f lt shut a ms e) =
-      let t = entry_is law i b p shut in
+      let t = i.told.entries b p in
       let h = home_is law i b p shut in
       let e' = e ∙ ap (λ (z : Entry W). request store z.hint b 0 ∷ []) t in
       let told = ask_told same law n k i.pages i.told b p shut (free_is law i b p shut) (undeferred law i b p shut) store f in (
@@ -63,7 +63,7 @@ module _ {W : Type 0} {same : Mail W → Mail W → Bool} {n : ℕ} {l : Ledger 
         tt,
       )
   does_kept (stores_clearing b p f lt shut a more ms e) =
-      let t = entry_is law i b p shut in
+      let t = i.told.entries b p in
       let h = home_is law i b p shut in
       let q : ((i.pages p).entry b).hint ≡ b = ap (λ (z : Entry W). z.hint) (sym t) ∙ a in
       let y = none_false n (has ((k.board b).entry p).copies) more in
@@ -78,7 +78,7 @@ module _ {W : Type 0} {same : Mail W → Mail W → Bool} {n : ℕ} {l : Ledger 
         tt,
       )
   does_kept (stores_now b p f lt shut may) =
-      let t = entry_is law i b p shut in
+      let t = i.told.entries b p in
       let h = home_is law i b p shut in
       let g = stored_at (i.pages p) b (f ((i.pages p).entry b).words) in
       let told = now_told same law n k i.pages i.told b p shut (free_is law i b p shut) (undeferred law i b p shut) (f ((i.pages p).entry b).words) in

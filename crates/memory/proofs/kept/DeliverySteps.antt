@@ -40,7 +40,7 @@ module _ {W : Type 0} (same : Mail W → Mail W → Bool) (law : Equality same) 
 
 module _ {W : Type 0} (same : Mail W → Mail W → Bool) (law : Equality same) (n : ℕ) (k : Kit W) (pages : ℕ → Page W) (t : Told same k pages) (p : ℕ) (rest : Bag (Post W)) where
   -- the messages after a delivery, from what its page's journeys say
-  pub mails_after : (m : Mail W) (ms : List (Mail W)) (q : Page W) → k.link ≡ record { page = p; mail = m } & rest → ((x : Mail W) → bit (flies same q.journey x) + bit (same x m) ≡ bit (flies same (pages p).journey x) + listed same x ms) → (r : ℕ) (x : Mail W) → times same r x (post_all p ms rest) ≡ bit (flies same (upd pages p q r).journey x)
+  pub mails_after : (m : Mail W) (ms : List (Mail W)) (q : Page W) → Takes k p m rest → ((x : Mail W) → bit (flies same q.journey x) + bit (same x m) ≡ bit (flies same (pages p).journey x) + listed same x ms) → (r : ℕ) (x : Mail W) → times same r x (post_all p ms rest) ≡ bit (flies same (upd pages p q r).journey x)
   mails_after m ms q e net r x =
       let a = times_post same law p r x ms rest in
       let b = ap (times same r x) e in

@@ -49,7 +49,7 @@ module _ {W : Type 0} (same : Mail W → Mail W → Bool) (law : Equality same) 
         answer = read_at a h w;
         page = q;
         replied = arrives_is t n p (copy f a h w) (asked load) (ap stage_of at) ∙ ap (finish_load a (k.board a).seat (got_copy (P.entry a) f w) h w) df ∙ ap (λ z. replies (vacant (k.board a).seat) (serve_entries a z rs) (serve_mails a z rs) (read_at a h w)) (sym eu);
-        moved = loads a h w l s.1;
+        moved = loads {s = q} a h w l s.1;
         same_page = refl;
         tale = (refl, grind (arith, facts, t.stages a p), refl, ap far (sym at), done_asks c (upd_same P.journey a home));
         hops = λ x on. done_hops P c (upd_same P.journey a home) (λ y ne. grind (arith, facts)) x on;
@@ -92,7 +92,7 @@ module _ {W : Type 0} (same : Mail W → Mail W → Bool) (law : Equality same) 
         answer = read_at a h w;
         page = q;
         replied = arrives_is t n p (copy f a h w) (asked load) (ap stage_of at) ∙ ap (finish_load a (k.board a).seat (got_copy (P.entry a) f w) h w) df ∙ ap (λ z. replies (vacant (k.board a).seat) (serve_entries a z rs) (acknowledge a r ∷ serve_mails a z rs) (read_at a h w)) (sym eu);
-        moved = loads a h w l s.1;
+        moved = loads {s = q} a h w l s.1;
         same_page = refl;
         tale = (refl, grind (arith, facts, t.stages a p), refl, ap far (sym at), omega (arith, done_asks c (upd_same mid a home)));
         hops = λ x on. omega (arith, done_hops P c (upd_same mid a home) (λ y ne. grind (arith, facts)) x on);

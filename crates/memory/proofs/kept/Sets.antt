@@ -1,3 +1,4 @@
+-- Members of a copy set: of the empty one, and of one with a board put in or taken out; and the facts that the proofs about pages use.
 use Rattle.std.proofs.Common.{◌≡◌, ℕ, zero, suc, Bool, false, cond, eqb, List, replicate, [], ◌∷◌, refl, arith}
 use Rattle.std.proofs.lemmas.Bool.Decides.{leb_tells, eqb_tells}
 use Rattle.memory.proofs.model.Sets.{has, put, nobody}

@@ -49,7 +49,7 @@ module _ {W : Type 0} (same : Mail W → Mail W → Bool) (law : Equality same) 
         answer = written_at a h act;
         page = q;
         replied = arrives_is t n p (grant f a h c w) (asked store) (ap stage_of at) ∙ ap (λ z. cond z (finish a (k.board a).seat h w) (replies (with_awaited (k.board a).seat h (has c)) (got_grant a c w) (invalidates n a c) nothing)) nobody_in ∙ ap (λ z. replies (vacant (k.board a).seat) (serve_entries a z rs) (serve_mails a z rs) (written_at a h act)) (sym eu);
-        moved = stores a h w act l s.1;
+        moved = stores {s = q} a h w act l s.1;
         same_page = refl;
         tale = (refl, grind (arith, facts, t.stages a p), refl, ap far (sym at), done_asks d (upd_same P.journey a home));
         hops = λ x on. done_hops P d (upd_same P.journey a home) (λ y ne. grind (arith, facts)) x on;
@@ -104,7 +104,7 @@ module _ {W : Type 0} (same : Mail W → Mail W → Bool) (law : Equality same) 
             ∙ ap (λ z. cond z (cond (none_below n (upd (k.board a).seat.awaited x false)) (finish a (k.board a).seat h w) (replies (with_awaited (k.board a).seat h (upd (k.board a).seat.awaited x false)) (P.entry a) [] nothing)) refused) aw
             ∙ ap (λ z. cond z (finish a (k.board a).seat h w) (replies (with_awaited (k.board a).seat h (upd (k.board a).seat.awaited x false)) (P.entry a) [] nothing)) nobody
             ∙ ap (λ z. replies (vacant (k.board a).seat) (serve_entries a z rs) (serve_mails a z rs) (written_at a h act)) (sym eu);
-        moved = stores a h w act l s.1;
+        moved = stores {s = q} a h w act l s.1;
         same_page = refl;
         tale = (refl, grind (arith, facts, t.stages a p), refl, ap far (sym at), done_asks d (upd_same P.journey a home));
         hops = λ x on. done_hops P d (upd_same P.journey a home) (λ y ne. grind (arith, facts)) x on;
