@@ -51,9 +51,9 @@ module _ {W : Type 0} (same : Mail W → Mail W → Bool) (law : Equality same) 
         replied = arrives_is t n p (copy f a h w) (asked load) (ap stage_of at) ∙ ap (finish_load a (k.board a).seat (got_copy (P.entry a) f w) h w) df ∙ ap (λ z. replies (vacant (k.board a).seat) (serve_entries a z rs) (serve_mails a z rs) (read_at a h w)) (sym eu);
         moved = loads {s = q} a h w l s.1;
         same_page = refl;
-        tale = (refl, grind (arith, facts, t.stages a p), refl, ap far (sym at), done_asks c (upd_same P.journey a home));
-        hops = λ x on. done_hops P c (upd_same P.journey a home) (λ y ne. grind (arith, facts)) x on;
-        calm = λ x off. changes_calm c x off;
+        tale = (refl, grind (arith, facts, t.stages a p), refl, ap far (sym at), done_asks {q = q} c (upd_same P.journey a home));
+        hops = λ x on. done_hops P {q = q} c (upd_same P.journey a home) (λ y ne. grind (arith, facts)) x on;
+        calm = λ x off. changes_calm {q = q} c x off;
         told = finish_told same law n k pages t p rest a (copy f a h w) q1 q (serve_entries a (q1.entry a) rs) (serve_mails a (q1.entry a) rs) (serve_mails a (q1.entry a) rs) e b
             (λ x ne. grind (arith, facts))
             (λ x. grind (arith, facts))
@@ -94,9 +94,9 @@ module _ {W : Type 0} (same : Mail W → Mail W → Bool) (law : Equality same) 
         replied = arrives_is t n p (copy f a h w) (asked load) (ap stage_of at) ∙ ap (finish_load a (k.board a).seat (got_copy (P.entry a) f w) h w) df ∙ ap (λ z. replies (vacant (k.board a).seat) (serve_entries a z rs) (acknowledge a r ∷ serve_mails a z rs) (read_at a h w)) (sym eu);
         moved = loads {s = q} a h w l s.1;
         same_page = refl;
-        tale = (refl, grind (arith, facts, t.stages a p), refl, ap far (sym at), omega (arith, done_asks c (upd_same mid a home)));
-        hops = λ x on. omega (arith, done_hops P c (upd_same mid a home) (λ y ne. grind (arith, facts)) x on);
-        calm = λ x off. omega (arith, changes_calm c x off);
+        tale = (refl, grind (arith, facts, t.stages a p), refl, ap far (sym at), omega (arith, done_asks {q = q} c (upd_same mid a home)));
+        hops = λ x on. omega (arith, done_hops P {q = q} c (upd_same mid a home) (λ y ne. grind (arith, facts)) x on);
+        calm = λ x off. omega (arith, changes_calm {q = q} c x off);
         told = finish_told same law n k pages t p rest a (copy f a h w) q1 q (serve_entries a (q1.entry a) rs) (acknowledge a r ∷ serve_mails a (q1.entry a) rs) (serve_mails a (q1.entry a) rs) e b
             (λ x ne. grind (arith, facts))
             (λ x. grind (arith, facts))

@@ -51,9 +51,9 @@ module _ {W : Type 0} (same : Mail W → Mail W → Bool) (law : Equality same) 
         replied = arrives_is t n p (grant f a h c w) (asked store) (ap stage_of at) ∙ ap (λ z. cond z (finish a (k.board a).seat h w) (replies (with_awaited (k.board a).seat h (has c)) (got_grant a c w) (invalidates n a c) nothing)) nobody_in ∙ ap (λ z. replies (vacant (k.board a).seat) (serve_entries a z rs) (serve_mails a z rs) (written_at a h act)) (sym eu);
         moved = stores {s = q} a h w act l s.1;
         same_page = refl;
-        tale = (refl, grind (arith, facts, t.stages a p), refl, ap far (sym at), done_asks d (upd_same P.journey a home));
-        hops = λ x on. done_hops P d (upd_same P.journey a home) (λ y ne. grind (arith, facts)) x on;
-        calm = λ x off. changes_calm d x off;
+        tale = (refl, grind (arith, facts, t.stages a p), refl, ap far (sym at), done_asks {q = q} d (upd_same P.journey a home));
+        hops = λ x on. done_hops P {q = q} d (upd_same P.journey a home) (λ y ne. grind (arith, facts)) x on;
+        calm = λ x off. changes_calm {q = q} d x off;
         told = finish_told same law n k pages t p rest a (grant f a h c w) q1 q (serve_entries a (q1.entry a) rs) (serve_mails a (q1.entry a) rs) (serve_mails a (q1.entry a) rs) e b
             (λ x ne. grind (arith, facts))
             (λ x. grind (arith, facts))
@@ -106,9 +106,9 @@ module _ {W : Type 0} (same : Mail W → Mail W → Bool) (law : Equality same) 
             ∙ ap (λ z. replies (vacant (k.board a).seat) (serve_entries a z rs) (serve_mails a z rs) (written_at a h act)) (sym eu);
         moved = stores {s = q} a h w act l s.1;
         same_page = refl;
-        tale = (refl, grind (arith, facts, t.stages a p), refl, ap far (sym at), done_asks d (upd_same P.journey a home));
-        hops = λ x on. done_hops P d (upd_same P.journey a home) (λ y ne. grind (arith, facts)) x on;
-        calm = λ x off. changes_calm d x off;
+        tale = (refl, grind (arith, facts, t.stages a p), refl, ap far (sym at), done_asks {q = q} d (upd_same P.journey a home));
+        hops = λ x on. done_hops P {q = q} d (upd_same P.journey a home) (λ y ne. grind (arith, facts)) x on;
+        calm = λ x off. changes_calm {q = q} d x off;
         told = finish_told same law n k pages t p rest a (acknowledge x a) q1 q (serve_entries a (q1.entry a) rs) (serve_mails a (q1.entry a) rs) (serve_mails a (q1.entry a) rs) e b
             (λ x ne. grind (arith, facts))
             (λ x. grind (arith, facts))
