@@ -33,7 +33,7 @@ use Rattle.memory.proofs.images.Arriving.{arrives, quiet}
 use Rattle.memory.proofs.images.Bags.{size_map}
 use Rattle.memory.proofs.images.Deliveries.{to_few, belongs}
 use Rattle.memory.proofs.images.Finishes.{op_image, op_is}
-use Rattle.memory.proofs.images.Follows.{Follows, GoesOn}
+use Rattle.memory.proofs.images.Follows.{Follows, GoesOn, still_follows}
 use Rattle.memory.proofs.images.Images.{post_image}
 use Rattle.memory.proofs.images.Ledgers.{Counts, Agrees, counted}
 use Rattle.memory.proofs.images.Loads as loads
@@ -118,18 +118,11 @@ module _ {n p : ℕ} {l : Ledger} {s : Running} {w : ℕ} (f : Follows n p l s w
     pub quiet_there : QuietWhereNothingWaits l answer
     pub posts : PostsNothing answer posted
 
-  none_more : (c : ℕ) → Counts n s.kit c (l.requests c) (f.told.passed c) → Counts n s.kit c (l.requests c + 0) (f.told.passed c)
-  none_more c (inl e) = inl (omega (arith, e))
-  none_more c (inr h) = inr (omega (arith, h.0), h.1, h.2)
-
-  same_ledger : Agrees n p (record { array = l.array; pending = l.pending; requests = λ c. l.requests c + 0; waiting = l.waiting - 0 + 0 }) s f.told
-  same_ledger = record { words = f.agrees.words; counts = λ c. none_more c (f.agrees.counts c); pending = f.agrees.pending; none_else = f.agrees.none_else; waiting = omega (arith, f.agrees.waiting) }
-
   -- a refused load or store
   still_load : (b address : ℕ) (fault : Fault) → GoesOn n p l w (Load b address) (Err fault) [] s
   still_load b address fault = record {
     work_left = w;
-    follows = record { machine = f.machine; told = f.told; kept = f.kept; matches = f.matches; agrees = same_ledger; room = f.room; left = f.left };
+    follows = still_follows f;
     right = tt;
     works = λ d. absurd d;
   }
@@ -137,7 +130,7 @@ module _ {n p : ℕ} {l : Ledger} {s : Running} {w : ℕ} (f : Follows n p l s w
   still_store : (b address word : ℕ) (fault : Fault) → GoesOn n p l w (Store b address word) (Err fault) [] s
   still_store b address word fault = record {
     work_left = w;
-    follows = record { machine = f.machine; told = f.told; kept = f.kept; matches = f.matches; agrees = same_ledger; room = f.room; left = f.left };
+    follows = still_follows f;
     right = tt;
     works = λ d. absurd d;
   }
