@@ -1,5 +1,5 @@
 -- A delivery in a kit: answered rightly, taken from the work that is left, and the model follows.
-use Rattle.std.proofs.Common.{◌≡◌, ℕ, zero, suc, ◌+◌, ◌-◌, ◌*◌, List, [], Some, None, Ok, Option, refl, ap, ◌∙◌, inl, inr, arith}
+use Rattle.std.proofs.Common.{◌≡◌, ℕ, zero, suc, ◌+◌, ◌-◌, ◌*◌, List, [], Some, None, Ok, Option, refl, ap, ◌∙◌, arith}
 use Rattle.wire.specs.Bags.{Bag, empty, ◌&◌, ◌⊕◌}
 use Rattle.wire.specs.declared.message.Message.{Message}
 use Rattle.board.specs.Boards.{BoardState}
@@ -25,7 +25,7 @@ use Rattle.memory.proofs.images.Deliveries as delivery
 use Rattle.memory.proofs.images.Finishes as finish
 use Rattle.memory.proofs.images.Follows.{Follows, GoesOn, still_follows}
 use Rattle.memory.proofs.images.Images.{W, map_bag, post_image}
-use Rattle.memory.proofs.images.Ledgers.{Counts, Agrees, counted}
+use Rattle.memory.proofs.images.Ledgers.{Agrees, counted}
 use Rattle.memory.proofs.images.OpenAccesses.{Goes, arrived}
 
 module _ {n p : ℕ} {l : specs.Ledger} {s : Running} {w : ℕ} (f : Follows n p l s w) where

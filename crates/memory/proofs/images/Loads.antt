@@ -1,5 +1,5 @@
 -- A load in a kit: answered rightly, and the model follows.
-use Rattle.std.proofs.Common.{◌≡◌, ℕ, ◌+◌, ◌-◌, ◌*◌, ◌<◌, false, List, [], ◌∷◌, map, get_or, None, Ok, refl, ap, ◌∙◌, sym, subst, inl, inr, arith}
+use Rattle.std.proofs.Common.{◌≡◌, ℕ, ◌*◌, ◌<◌, false, List, [], ◌∷◌, get_or, None, Ok, refl, ap, ◌∙◌, sym, subst, inl, arith}
 use Rattle.wire.specs.Bags.{◌⊕◌}
 use Rattle.wire.specs.Questions.{first_no}
 use Rattle.board.specs.Addresses.{page_of, place_of}
@@ -29,10 +29,7 @@ use Rattle.memory.proofs.model.Kit as kit
 use Rattle.memory.proofs.model.Page.{is_none}
 use Rattle.memory.proofs.images.Accesses as at
 use Rattle.memory.proofs.images.Follows.{Follows, GoesOn, still, still_follows}
-use Rattle.memory.proofs.images.Images.{W, access_image, request_image}
-use Rattle.memory.proofs.images.Ledgers.{Counts, Agrees}
-use Rattle.memory.proofs.images.Matches.{Matches}
-use Rattle.memory.proofs.images.OpenAccesses.{pending_of}
+use Rattle.memory.proofs.images.Images.{W, access_image}
 use Rattle.memory.proofs.images.Tables.{kit_after}
 
 module _ {n p : ℕ} {l : specs.Ledger} {s : Running} {w : ℕ} (f : Follows n p l s w) (b address : ℕ) (in_board : b < n) (ok : first_no (lone.access_questions (board_at s.kit b) address) ≡ None) where

@@ -1,5 +1,5 @@
 -- What a board posts carries copy sets with room for sixteen, and the board keeps its number.
-use Rattle.std.proofs.Common.{◌≡◌, ℕ, Bool, true, false, cond, eqb, List, [], ◌∷◌, ◌++◌, map, get_or, length, Some, None, Option, refl, ◌∙◌}
+use Rattle.std.proofs.Common.{◌≡◌, ℕ, Bool, true, false, cond, eqb, List, [], ◌∷◌, map, get_or, length, Some, None, Option, refl, ◌∙◌}
 use Rattle.std.proofs.lemmas.List.{length-set}
 use Rattle.std.specs.List.{AllByRecursion as All}
 use Rattle.wire.specs.BoardSets.{is_empty, without_member}

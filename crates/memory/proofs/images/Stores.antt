@@ -29,9 +29,8 @@ use Rattle.memory.proofs.model.Kit as kit
 use Rattle.memory.proofs.model.Page.{is_none}
 use Rattle.memory.proofs.images.Accesses as at
 use Rattle.memory.proofs.images.Follows.{Follows, GoesOn}
-use Rattle.memory.proofs.images.Images.{W, access_image, entry_image, request_image}
-use Rattle.memory.proofs.images.Ledgers.{Counts}
-use Rattle.memory.proofs.images.OpenAccesses.{pending_of, not_asked}
+use Rattle.memory.proofs.images.Images.{W, access_image, entry_image}
+use Rattle.memory.proofs.images.OpenAccesses.{not_asked}
 use Rattle.memory.proofs.images.Tables.{kit_after}
 use Rattle.std.proofs.lemmas.Bool.{cases_eq, and_parts, eqb-true, eqb-false, true≢false}
 use Rattle.wire.specs.BoardSets as sets
