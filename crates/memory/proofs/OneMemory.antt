@@ -2,7 +2,7 @@
 use Rattle.std.proofs.Common.{◌≡◌, ℕ, zero, suc, ◌+◌, ◌-◌, ◌*◌, ◌<◌, ◌≤◌, nat_lt, nat_le, Bool, true, false, not, ◌&&◌, ◌⊎◌, List, [], ◌∷◌, Some, None, Ok, Err, Option, Result, refl, ap, ◌∙◌, sym, subst, inl, inr, arith}
 use native.Mathlib.Nat.{mul-le-mul_left}
 use Rattle.std.proofs.lemmas.Bool.{le-leb, lt-ltb, ltb-true, ltb-false}
-use Rattle.wire.specs.Bags.{Bag, ◌&◌, size}
+use Rattle.wire.specs.Bags.{Bag, ◌&◌, size, ◌⊕◌}
 use Rattle.wire.specs.Questions.{first_no, refusal}
 use Rattle.wire.proofs.Questions.{yes, passed_before}
 use Rattle.wire.specs.declared.fault.Fault.{Fault}
@@ -11,12 +11,13 @@ use Rattle.records.specs.Forms.{message_questions}
 use Rattle.board.specs.Stages.{is_idle}
 use Rattle.board.specs.declared.stage.Stage.{Stage}
 use Rattle.board.specs.declared.stage.Stage.TheVariants.{Idle, LoadAsked, StoreAsked, Clearing}
-use Rattle.lone.specs.Calls.{load_at, store_at, arrive_at}
+use Rattle.board.specs.declared.answer.AccessAnswer.{AccessAnswer}
+use Rattle.lone.specs.Calls.{Outcome, load_at, store_at, arrive_at}
 use Rattle.lone.specs.LoneQuestions as lone
 use Rattle.lone.specs.Sizes.{has_address}
 use Rattle.memory.specs.Calls.{Running, room, access_questions, arrival_questions, Answers, without, DoesCall}
 use Rattle.memory.specs.Histories.{Access, load, store}
-use Rattle.memory.specs.Kits.{board_at, state_at}
+use Rattle.memory.specs.Kits.{board_at, state_at, with_board}
 use Rattle.memory.specs.Ledgers.{Ledger, is_open, open_accesses, passed_on}
 use Rattle.memory.specs.OneMemory.{NothingOpen}
 use Rattle.memory.specs.Placements.{Placement, array}
@@ -33,9 +34,9 @@ use Rattle.memory.proofs.images.Arriving.{arrives, quiet}
 use Rattle.memory.proofs.images.Bags.{size_map}
 use Rattle.memory.proofs.images.Deliveries.{to_few, belongs}
 use Rattle.memory.proofs.images.Finishes.{op_image, op_is}
-use Rattle.memory.proofs.images.Follows.{Follows, GoesOn}
+use Rattle.memory.proofs.images.Follows.{Follows, GoesOn, still_follows}
 use Rattle.memory.proofs.images.Images.{post_image}
-use Rattle.memory.proofs.images.Ledgers.{Counts, Agrees, counted}
+use Rattle.memory.proofs.images.Ledgers.{counted}
 use Rattle.memory.proofs.images.Loads as loads
 use Rattle.memory.proofs.images.OpenAccesses.{pending_of}
 use Rattle.memory.proofs.images.Starting.{starts}
@@ -118,18 +119,11 @@ module _ {n p : ℕ} {l : Ledger} {s : Running} {w : ℕ} (f : Follows n p l s w
     pub quiet_there : QuietWhereNothingWaits l answer
     pub posts : PostsNothing answer posted
 
-  none_more : (c : ℕ) → Counts n s.kit c (l.requests c) (f.told.passed c) → Counts n s.kit c (l.requests c + 0) (f.told.passed c)
-  none_more c (inl e) = inl (omega (arith, e))
-  none_more c (inr h) = inr (omega (arith, h.0), h.1, h.2)
-
-  same_ledger : Agrees n p (record { array = l.array; pending = l.pending; requests = λ c. l.requests c + 0; waiting = l.waiting - 0 + 0 }) s f.told
-  same_ledger = record { words = f.agrees.words; counts = λ c. none_more c (f.agrees.counts c); pending = f.agrees.pending; none_else = f.agrees.none_else; waiting = omega (arith, f.agrees.waiting) }
-
   -- a refused load or store
   still_load : (b address : ℕ) (fault : Fault) → GoesOn n p l w (Load b address) (Err fault) [] s
   still_load b address fault = record {
     work_left = w;
-    follows = record { machine = f.machine; told = f.told; kept = f.kept; matches = f.matches; agrees = same_ledger; room = f.room; left = f.left };
+    follows = still_follows f;
     right = tt;
     works = λ d. absurd d;
   }
@@ -137,7 +131,7 @@ module _ {n p : ℕ} {l : Ledger} {s : Running} {w : ℕ} (f : Follows n p l s w
   still_store : (b address word : ℕ) (fault : Fault) → GoesOn n p l w (Store b address word) (Err fault) [] s
   still_store b address word fault = record {
     work_left = w;
-    follows = record { machine = f.machine; told = f.told; kept = f.kept; matches = f.matches; agrees = same_ledger; room = f.room; left = f.left };
+    follows = still_follows f;
     right = tt;
     works = λ d. absurd d;
   }
@@ -162,29 +156,19 @@ module _ {n p : ℕ} {l : Ledger} {s : Running} {w : ℕ} (f : Follows n p l s w
   not_refused : (fault : Fault) → refusal {T = Answer} (Err fault) ≡ None → ⊥
   not_refused fault h = let y : ◌≡◌ {A = ℕ} 0 1 = cc in omega arith
 
-  loads_fine : (b address : ℕ) (answer : Result Answer Fault) (posted : List Message) (t : Running) → DoesCall (Load b address) s answer posted t → Fine (Load b address) answer posted t
-  loads_fine b address (Ok a) posted t d =
-      let m = may b address d.0 in
-      let o = load_at (board_at s.kit b) address in
-      subst (λ x. Fine (Load b address) (Ok x) posted t) (sym d.1.0)
-      (subst (λ x. Fine (Load b address) (Ok (Accessed o.answer)) x t) (sym d.1.1)
-      (subst (λ x. Fine (Load b address) (Ok (Accessed o.answer)) o.posts x) (sym d.1.2)
-      (record { goes_on = loads.goes_on f b address m.in_board m.ok; asked = d.0 ∙ asked_same b address; quiet_there = tt; posts = tt })))
-  loads_fine b address (Err fault) posted t d =
-      subst (λ x. Fine (Load b address) (Err fault) x t) (sym d.1.0)
-      (subst (λ x. Fine (Load b address) (Err fault) [] x) (sym d.1.1) (record { goes_on = still_load b address fault; asked = d.0 ∙ asked_same b address; quiet_there = tt; posts = refl }))
-
-  stores_fine : (b address word : ℕ) (answer : Result Answer Fault) (posted : List Message) (t : Running) → DoesCall (Store b address word) s answer posted t → Fine (Store b address word) answer posted t
-  stores_fine b address word (Ok a) posted t d =
-      let m = may b address d.0 in
-      let o = store_at (board_at s.kit b) address word in
-      subst (λ x. Fine (Store b address word) (Ok x) posted t) (sym d.1.0)
-      (subst (λ x. Fine (Store b address word) (Ok (Accessed o.answer)) x t) (sym d.1.1)
-      (subst (λ x. Fine (Store b address word) (Ok (Accessed o.answer)) o.posts x) (sym d.1.2)
-      (record { goes_on = stores.goes_on f b address word m.in_board m.ok; asked = d.0 ∙ asked_same b address; quiet_there = tt; posts = tt })))
-  stores_fine b address word (Err fault) posted t d =
-      subst (λ x. Fine (Store b address word) (Err fault) x t) (sym d.1.0)
-      (subst (λ x. Fine (Store b address word) (Err fault) [] x) (sym d.1.1) (record { goes_on = still_store b address word fault; asked = d.0 ∙ asked_same b address; quiet_there = tt; posts = refl }))
+  -- a load or a store, refused or not
+  access_fine : (call : Call) (b address : ℕ) (o : Outcome AccessAnswer) → questions n p l call ≡ questions_of n p l b address →
+      (May b address → GoesOn n p l w call (Ok (Accessed o.answer)) o.posts (record { kit = with_board s.kit b o.board; limit = s.limit; waiting = o.posts ⊕ s.waiting })) →
+      ((fault : Fault) → GoesOn n p l w call (Err fault) [] s) →
+      (answer : Result Answer Fault) (posted : List Message) (t : Running) → Answers (access_questions s b address) Accessed b o s answer posted t → Fine call answer posted t
+  access_fine call b address o same goes stays (Ok a) posted t d =
+      subst (λ x. Fine call (Ok x) posted t) (sym d.1.0)
+      (subst (λ x. Fine call (Ok (Accessed o.answer)) x t) (sym d.1.1)
+      (subst (λ x. Fine call (Ok (Accessed o.answer)) o.posts x) (sym d.1.2)
+      (record { goes_on = goes (may b address d.0); asked = d.0 ∙ asked_same b address ∙ ap first_no (sym same); quiet_there = tt; posts = tt })))
+  access_fine call b address o same goes stays (Err fault) posted t d =
+      subst (λ x. Fine call (Err fault) x t) (sym d.1.0)
+      (subst (λ x. Fine call (Err fault) [] x) (sym d.1.1) (record { goes_on = stays fault; asked = d.0 ∙ asked_same b address ∙ ap first_no (sym same); quiet_there = tt; posts = refl }))
 
   arrival_fine : (pick : ℕ) (m : Message) (rest : Bag Message) → s.waiting ≡ m & rest → (answer : Result Answer Fault) (posted : List Message) (t : Running) →
       Answers (arrival_questions (without s rest) m) Arrived m.to (arrive_at (board_at s.kit m.to) m) (without s rest) answer posted t → Fine (Deliver pick) answer posted t
@@ -205,8 +189,10 @@ module _ {n p : ℕ} {l : Ledger} {s : Running} {w : ℕ} (f : Follows n p l s w
   deliveries_fine pick answer posted t (inr d) = arrival_fine pick d.message d.rest d.waited answer posted t d.arrives
 
   pub fine : (call : Call) (answer : Result Answer Fault) (posted : List Message) (t : Running) → DoesCall call s answer posted t → Fine call answer posted t
-  fine (Load b address) answer posted t d = loads_fine b address answer posted t d
-  fine (Store b address word) answer posted t d = stores_fine b address word answer posted t d
+  fine (Load b address) answer posted t d =
+      access_fine (Load b address) b address (load_at (board_at s.kit b) address) refl (λ m. loads.goes_on f b address m.in_board m.ok) (still_load b address) answer posted t d
+  fine (Store b address word) answer posted t d =
+      access_fine (Store b address word) b address (store_at (board_at s.kit b) address word) refl (λ m. stores.goes_on f b address word m.in_board m.ok) (still_store b address word) answer posted t d
   fine (Deliver pick) answer posted t d = deliveries_fine pick answer posted t d
 
   -- The work that is left.

@@ -31,12 +31,14 @@ use Rattle.memory.specs.Histories.{Access}
 use Rattle.memory.specs.Kits.{Kit, state_at, table_of, board_at}
 use Rattle.memory.specs.Ledgers as specs
 use Rattle.memory.proofs.kept.Sums.{upd_same, upd_other}
+use Rattle.memory.proofs.kept.KitKept.{Kept, left_of}
+use Rattle.memory.proofs.kept.EqualMessages.{same_mail}
 use Rattle.memory.proofs.model.Board as model
 use Rattle.memory.proofs.model.Calls as history
 use Rattle.memory.proofs.model.Kit as kit
 use Rattle.memory.proofs.model.Sums.{upd, bit}
 use Rattle.memory.proofs.images.Follows.{Follows}
-use Rattle.memory.proofs.images.Images.{W, entry_image, post_image, StageIs, SeatIs}
+use Rattle.memory.proofs.images.Images.{request_image, W, entry_image, post_image, StageIs, SeatIs}
 use Rattle.memory.proofs.images.Ledgers.{Counts, Agrees, requests_are, pending_step, changed_here, changed_there}
 use Rattle.memory.proofs.images.Matches.{Matches, stepped}
 use Rattle.memory.proofs.images.OpenAccesses.{pending_of, not_asked}
@@ -248,3 +250,22 @@ module _ {n p : ℕ} {l : specs.Ledger} {s : Running} {w : ℕ} (f : Follows n p
 
   pub asks_none : (kd : model.Kind) (t c : ℕ) → (c ≡ b → ⊥) → kit.requests {W = W} c (model.request kd t b 0 ∷ []) ≡ 0
   asks_none kd t c ne = ap (λ (x : Bool). bit x + 0) (ne_eqb b c (λ q. ne (sym q)))
+
+  -- an access that opened is followed
+  pub opened_follows : (x : Access) (op : kit.Open W) (stage : Stage) (ps : List Message) (mails : List (model.Mail W)) (c : kit.Seat W) (kept : Kept same_mail n (history.opening f.told b op mails) (kit.becomes k b page c ((k.board b).entry page) mails k.link)) →
+      Opens (board.opened st e stage ps) → StageIs stage c → c.waiting ≡ [] → pending_of stage ≡ Some x → map (on_page page) mails ≡ map post_image ps →
+      ((board : ℕ) → (board ≡ b → ⊥) → kit.requests board mails ≡ 0) → ((kit.requests b mails ≡ 1) ⊎ ((kit.requests b mails ≡ 0) × (not_asked stage ≡ true))) →
+      Follows n p (opened_ledger x ps) (state_after (at_stage st stage) e ps) (left_of kept)
+  opened_follows x op stage ps mails c kept opens is none pending same none_else mine = record {
+    machine = kit.becomes k b page c ((k.board b).entry page) mails k.link;
+    told = history.opening f.told b op mails;
+    kept = kept;
+    matches = opening_matches (board.opened st e stage ps) opens c ((k.board b).entry page) mails (record { stage = is; waiting = none ∙ ap (map request_image) (sym none_waits) }) entry_is same;
+    agrees = opened_agrees x op stage ps mails pending same none_else mine;
+    room = f.room;
+    left = refl;
+  }
+
+  -- it opened where none was open
+  pub none_open : l.pending b ≡ None
+  none_open = f.agrees.pending b in_board ∙ ap pending_of idle

@@ -1,5 +1,5 @@
 -- A delivery in a kit: answered rightly, taken from the work that is left, and the model follows.
-use Rattle.std.proofs.Common.{◌≡◌, ℕ, zero, suc, ◌+◌, ◌-◌, ◌*◌, List, [], Some, None, Ok, Option, refl, ap, ◌∙◌, inl, inr, arith}
+use Rattle.std.proofs.Common.{◌≡◌, ℕ, zero, suc, ◌+◌, ◌-◌, ◌*◌, List, [], Some, None, Ok, Option, refl, ap, ◌∙◌, arith}
 use Rattle.wire.specs.Bags.{Bag, empty, ◌&◌, ◌⊕◌}
 use Rattle.wire.specs.declared.message.Message.{Message}
 use Rattle.board.specs.Boards.{BoardState}
@@ -23,9 +23,9 @@ use Rattle.memory.proofs.images.Accepts.{st, here, seat, number_is, seat_is, tol
 use Rattle.memory.proofs.images.Arrivals.{AnswerIs}
 use Rattle.memory.proofs.images.Deliveries as delivery
 use Rattle.memory.proofs.images.Finishes as finish
-use Rattle.memory.proofs.images.Follows.{Follows, GoesOn}
+use Rattle.memory.proofs.images.Follows.{Follows, GoesOn, still_follows}
 use Rattle.memory.proofs.images.Images.{W, map_bag, post_image}
-use Rattle.memory.proofs.images.Ledgers.{Counts, Agrees, counted}
+use Rattle.memory.proofs.images.Ledgers.{Agrees, counted}
 use Rattle.memory.proofs.images.OpenAccesses.{Goes, arrived}
 
 module _ {n p : ℕ} {l : specs.Ledger} {s : Running} {w : ℕ} (f : Follows n p l s w) where
@@ -111,22 +111,10 @@ module _ {n p : ℕ} {l : specs.Ledger} {s : Running} {w : ℕ} (f : Follows n p
       let zero_work : (3 * n - 4) * history.opens_count n f.told ≡ 0 = ap (λ x. (3 * n - 4) * x) none ∙ omega arith in
       omega (arith, bound, zero_work, f.left)
 
-  none_more : (c : ℕ) → Counts n s.kit c (l.requests c) (f.told.passed c) → Counts n s.kit c (l.requests c + 0) (f.told.passed c)
-  none_more c (inl e) = inl (omega (arith, e))
-  none_more c (inr h) = inr (omega (arith, h.0), h.1, h.2)
-
   pub quiet : (pick : ℕ) → s.waiting ≡ empty → GoesOn n p l w (Deliver pick) (Ok Quiet) [] s
   quiet pick e = record {
     work_left = w;
-    follows = record {
-      machine = f.machine;
-      told = f.told;
-      kept = f.kept;
-      matches = f.matches;
-      agrees = record { words = f.agrees.words; counts = λ c. none_more c (f.agrees.counts c); pending = f.agrees.pending; none_else = f.agrees.none_else; waiting = omega (arith, f.agrees.waiting) };
-      room = f.room;
-      left = f.left;
-    };
+    follows = still_follows f;
     right = tt;
     works = λ d. omega (arith, none_left e);
   }

@@ -38,6 +38,11 @@ pub counted : (n : ℕ) (k : Kit) (b requests passed : ℕ) → Counts n k b req
 counted n k b requests passed (inl e) = omega (arith, e)
 counted n k b requests passed (inr h) = omega (arith, h.0, h.1)
 
+-- the counts stay where nothing is posted, and no board asks
+pub counts_on : (n : ℕ) (k now : Kit) (b r q r' q' : ℕ) → r' ≡ r → q' ≡ q → (not_asked (state_at k b).stage ≡ true → not_asked (state_at now b).stage ≡ true) → Counts n k b r q → Counts n now b r' q'
+counts_on n k now b r q r' q' e d stays (inl h) = inl (omega (arith, e, d, h))
+counts_on n k now b r q r' q' e d stays (inr h) = inr (omega (arith, e, h.0), omega (arith, d, h.1), λ l. stays (h.2 l))
+
 pub record Agrees (n p : ℕ) (l : specs.Ledger) (s : Running) (ml : Ledger W) : Type 0 where
   pub words : WordsAgree p l.array ml.memory
   pub counts : (b : ℕ) → Counts n s.kit b (l.requests b) (ml.passed b)

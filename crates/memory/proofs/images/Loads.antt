@@ -1,5 +1,5 @@
 -- A load in a kit: answered rightly, and the model follows.
-use Rattle.std.proofs.Common.{◌≡◌, ℕ, ◌+◌, ◌-◌, ◌*◌, ◌<◌, false, List, [], ◌∷◌, map, get_or, None, Ok, refl, ap, ◌∙◌, sym, subst, inl, inr, arith}
+use Rattle.std.proofs.Common.{◌≡◌, ℕ, ◌*◌, ◌<◌, false, List, [], ◌∷◌, get_or, None, Ok, refl, ap, ◌∙◌, sym, subst, inl, arith}
 use Rattle.wire.specs.Bags.{◌⊕◌}
 use Rattle.wire.specs.Questions.{first_no}
 use Rattle.board.specs.Addresses.{page_of, place_of}
@@ -28,11 +28,8 @@ use Rattle.memory.proofs.model.Calls as history
 use Rattle.memory.proofs.model.Kit as kit
 use Rattle.memory.proofs.model.Page.{is_none}
 use Rattle.memory.proofs.images.Accesses as at
-use Rattle.memory.proofs.images.Follows.{Follows, GoesOn}
-use Rattle.memory.proofs.images.Images.{W, access_image, request_image}
-use Rattle.memory.proofs.images.Ledgers.{Counts, Agrees}
-use Rattle.memory.proofs.images.Matches.{Matches}
-use Rattle.memory.proofs.images.OpenAccesses.{pending_of}
+use Rattle.memory.proofs.images.Follows.{Follows, GoesOn, still, still_follows}
+use Rattle.memory.proofs.images.Images.{W, access_image}
 use Rattle.memory.proofs.images.Tables.{kit_after}
 
 module _ {n p : ℕ} {l : specs.Ledger} {s : Running} {w : ℕ} (f : Follows n p l s w) (b address : ℕ) (in_board : b < n) (ok : first_no (lone.access_questions (board_at s.kit b) address) ≡ None) where
@@ -64,32 +61,13 @@ module _ {n p : ℕ} {l : specs.Ledger} {s : Running} {w : ℕ} (f : Follows n p
   now : is_none ((k.board b).entry page).access ≡ false → Goes (board.answered st e (get_or e.words (place_of address) 0))
   now reads =
       let does = history.loads_now b page in_board (at.shut f b address in_board ok) reads in
-      let kept = does_kept same_law f.kept does in
-      let same = at.unchanged s.kit b page in
+      let brings = (does_kept same_law f.kept does).1 in
       record {
-        work_left = left_of kept.0;
-        follows = record {
-          machine = k;
-          told = history.unchanged f.told [];
-          kept = kept.0;
-          matches = subst (λ x. Matches n p (record { kit = x; limit = s.limit; waiting = s.waiting }) k) (sym same) f.matches;
-          agrees = subst (λ x. Agrees n p (record { array = l.array; pending = l.pending; requests = λ c. l.requests c + 0; waiting = l.waiting - 0 + 0 }) (record { kit = x; limit = s.limit; waiting = s.waiting }) (history.unchanged f.told [])) (sym same) (record {
-            words = f.agrees.words;
-            counts = λ c. none_more c (f.agrees.counts c);
-            pending = f.agrees.pending;
-            none_else = f.agrees.none_else;
-            waiting = omega (arith, f.agrees.waiting);
-          });
-          room = f.room;
-          left = refl;
-        };
-        right = ap (λ v. get_or v (place_of address) 0) (sym (ap (λ (x : model.Entry W). x.words) (at.entry_is f b address in_board ok)) ∙ kept.1) ∙ sym (f.agrees.words.same address in_range);
+        work_left = w;
+        follows = subst (λ x. Follows n p (still l) (record { kit = x; limit = s.limit; waiting = s.waiting }) w) (sym (at.unchanged s.kit b page)) (still_follows f);
+        right = ap (λ v. get_or v (place_of address) 0) (sym (ap (λ (x : model.Entry W). x.words) (at.entry_is f b address in_board ok)) ∙ brings) ∙ sym (f.agrees.words.same address in_range);
         works = λ d. absurd d;
       }
-    where
-      none_more : (c : ℕ) → Counts n s.kit c (l.requests c) (f.told.passed c) → Counts n s.kit c (l.requests c + 0) (f.told.passed c + 0)
-      none_more c (inl e) = inl (omega (arith, e))
-      none_more c (inr h) = inr (omega (arith, h.0), omega (arith, h.1), h.2)
 
   -- opened
   abbrev stage : Stage
@@ -106,17 +84,9 @@ module _ {n p : ℕ} {l : specs.Ledger} {s : Running} {w : ℕ} (f : Follows n p
       let opens = subst (λ a. at.Opens f b address in_board ok (board.load_with a st e address)) q (at.loads f b address in_board ok) in
       record {
         work_left = left_of kept.0;
-        follows = record {
-          machine = kit.becomes k b page (kit.opened_seat page (kit.asked model.load) (λ w. w) (λ _. false)) ((k.board b).entry page) mails k.link;
-          told = history.opening f.told b (kit.op_load page) mails;
-          kept = kept.0;
-          matches = at.opening_matches f b address in_board ok o opens (kit.opened_seat page (kit.asked model.load) (λ w. w) (λ _. false)) ((k.board b).entry page) mails
-              (record { stage = (refl, refl, refl); waiting = ap (map request_image) (sym (at.none_waits f b address in_board ok)) }) (at.entry_is f b address in_board ok) same;
-          agrees = at.opened_agrees f b address in_board ok (load address) (kit.op_load page) stage o.posts mails refl same (at.asks_none f b address in_board ok model.load hint) (inl (at.asks_one f b address in_board ok model.load hint));
-          room = f.room;
-          left = refl;
-        };
-        right = f.agrees.pending b in_board ∙ ap pending_of (at.idle f b address in_board ok);
+        follows = at.opened_follows f b address in_board ok (load address) (kit.op_load page) stage o.posts mails (kit.opened_seat page (kit.asked model.load) (λ w. w) (λ _. false)) kept.0 opens (refl, refl, refl) refl refl same
+            (at.asks_none f b address in_board ok model.load hint) (inl (at.asks_one f b address in_board ok model.load hint));
+        right = at.none_open f b address in_board ok;
         works = λ d. absurd d;
       }
 

@@ -1,5 +1,5 @@
 -- What a board posts carries copy sets with room for sixteen, and the board keeps its number.
-use Rattle.std.proofs.Common.{◌≡◌, ℕ, Bool, true, false, cond, eqb, List, [], ◌∷◌, ◌++◌, map, get_or, length, Some, None, Option, refl, ◌∙◌}
+use Rattle.std.proofs.Common.{◌≡◌, ℕ, Bool, true, false, cond, eqb, List, [], ◌∷◌, map, get_or, length, Some, None, Option, refl, ◌∙◌}
 use Rattle.std.proofs.lemmas.List.{length-set}
 use Rattle.std.specs.List.{AllByRecursion as All}
 use Rattle.wire.specs.BoardSets.{is_empty, without_member}
@@ -21,14 +21,11 @@ use Rattle.board.specs.declared.request.AccessKind.TheVariants as sort
 use Rattle.board.specs.declared.request.Request.{Request}
 use Rattle.board.specs.declared.stage.Stage.{Stage}
 use Rattle.board.specs.declared.stage.Stage.TheVariants.{Idle, LoadAsked, StoreAsked, Clearing}
+use Rattle.lone.proofs.PostForms.{both_good}
 use Rattle.memory.proofs.images.Serving.{Full, full_served, full_after}
 
 abbrev pub Whole : Message → Type 0
 Whole m = length m.copies.members ≡ 16
-
-both : {X : Type 0} (P : X → Type 0) (xs ys : List X) → All P xs → All P ys → All P (xs ++ ys)
-both P [] ys h k = k
-both P (x ∷ xs) ys h k = (h.0, both P xs ys h.1 k)
 
 module _ (me page : ℕ) where
   by_owner : (k : AccessKind) (e : PageEntry) (r : Request) → Full e → Whole (served_by_owner k me page e r).post
@@ -86,7 +83,7 @@ module _ (s : BoardState) (e : PageEntry) (full : Full e) where
     AfterStep t = WholeStep s.number t.state t.entry t.posts
 
     closed : (page : ℕ) (x : PageEntry) (posted : List Message) (fin : _) → Full x → All Whole posted → AfterStep (board.close s page x posted fin)
-    closed page x posted fin f w = record { number = refl; entry = full_after s.number page s.waiting x f; posts_whole = both Whole posted (posts_for s.number page x s.waiting) w (all_whole s.number page s.waiting x f) }
+    closed page x posted fin f w = record { number = refl; entry = full_after s.number page s.waiting x f; posts_whole = both_good Whole posted (posts_for s.number page x s.waiting) w (all_whole s.number page s.waiting x f) }
 
     copied : (d : Option ℕ) (fin : _) → AfterStep (board.close s m.page (board.entry_deferred d (board.with_copy e m)) (board.posts_deferred s.number m.page d) fin)
     copied None fin = closed m.page (board.with_copy e m) [] fin full tt

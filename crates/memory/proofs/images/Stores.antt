@@ -30,9 +30,8 @@ use Rattle.memory.proofs.model.Kit as kit
 use Rattle.memory.proofs.model.Page.{is_none}
 use Rattle.memory.proofs.images.Accesses as at
 use Rattle.memory.proofs.images.Follows.{Follows, GoesOn}
-use Rattle.memory.proofs.images.Images.{W, access_image, entry_image, request_image, put_word, post_image}
-use Rattle.memory.proofs.images.Ledgers.{Counts, put_agrees, pending_step}
-use Rattle.memory.proofs.images.OpenAccesses.{pending_of, not_asked}
+use Rattle.memory.proofs.images.Images.{W, access_image, entry_image, put_word, post_image}
+use Rattle.memory.proofs.images.OpenAccesses.{not_asked}
 use Rattle.memory.proofs.images.Tables.{kit_after, state_here, state_there}
 use Rattle.std.proofs.lemmas.Bool.{cases_eq, and_parts, eqb-true, eqb-false, true≢false}
 use Rattle.wire.specs.BoardSets as sets
@@ -42,6 +41,7 @@ use Rattle.lone.specs.Forms.{reads, writes}
 use Rattle.lone.proofs.EntryForms.{EntryTold, owner_rest, writer_told}
 use Rattle.memory.proofs.model.Board.{write}
 use Rattle.memory.proofs.model.Sets.{has}
+use Rattle.memory.proofs.images.Ledgers.{counts_on, put_agrees, pending_step}
 use Rattle.memory.proofs.images.Sets.{has_is, nobody_is, empty_is, invalidates_are, on_page}
 
 -- a set without members
@@ -123,7 +123,7 @@ module _ {n p : ℕ} {l : specs.Ledger} {s : Running} {w : ℕ} (f : Follows n p
           matches = at.opening_matches f b address in_board ok (board.put st e address word) opens (k.board b).seat (model.store_entry b (act ((k.board b).entry page).words)) [] (at.seat_is f b address in_board ok) (stored o c) refl;
           agrees = record {
             words = put_agrees p address word l.array f.told.memory (at.in_page f b address in_board ok) f.agrees.words;
-            counts = λ c. none_more c (f.agrees.counts c);
+            counts = λ c. counts_on n s.kit (kit_after s.kit b page st entry) c (l.requests c) (f.told.passed c) (l.requests c + 0) (f.told.passed c + 0) (omega arith) (omega arith) (λ h. ap not_asked (same_stage c) ∙ h) (f.agrees.counts c);
             pending = pending_step n s.kit f.matches.sized.shape b page (at.room f b address in_board ok) st entry l.pending l.pending f.agrees.pending (f.agrees.pending b in_board) (λ c ne. refl);
             none_else = f.agrees.none_else;
             waiting = omega (arith, f.agrees.waiting);
@@ -142,10 +142,6 @@ module _ {n p : ℕ} {l : specs.Ledger} {s : Running} {w : ℕ} (f : Follows n p
         | inr ne ↦ ap (λ (x : BoardState). x.stage) (state_there s.kit f.matches.sized.shape b page (at.room f b address in_board ok) st (board.written e address word) c ne)
       ]
 
-      none_more : (c : ℕ) → Counts n s.kit c (l.requests c) (f.told.passed c) → Counts n (kit_after s.kit b page st (board.written e address word)) c (l.requests c + 0) (f.told.passed c + 0)
-      none_more c (inl e) = inl (omega (arith, e))
-      none_more c (inr h) = inr (omega (arith, h.0), omega (arith, h.1), λ lt. ap not_asked (same_stage c) ∙ h.2 lt)
-
   -- opened: the copies are invalidated first
   abbrev clearing : Stage
   clearing = Clearing (record { store = record { address = address; word = word }; awaited = e.copies; hops = 0 })
@@ -163,18 +159,9 @@ module _ {n p : ℕ} {l : specs.Ledger} {s : Running} {w : ℕ} (f : Follows n p
       ∙ invalidates_are n st.number page e.copies f.matches.sized.few_boards below in
       record {
         work_left = left_of kept.0;
-        follows = record {
-          machine = kit.becomes k b page seat entry mails k.link;
-          told = history.opening f.told b (kit.op_store page act) mails;
-          kept = kept.0;
-          matches = at.opening_matches f b address in_board ok (board.clearing_store st e address word) opens seat entry mails
-              (record { stage = (refl, refl, refl, same_has); waiting = ap (map request_image) (sym (at.none_waits f b address in_board ok)) }) image same;
-          agrees = at.opened_agrees f b address in_board ok (store address word) (kit.op_store page act) clearing (invalidates st.number page e.copies) mails refl same
-              (λ c _. invalidates_ask n b c entry.copies mails refl) (inr (invalidates_ask n b b entry.copies mails refl, refl));
-          room = f.room;
-          left = refl;
-        };
-        right = f.agrees.pending b in_board ∙ ap pending_of (at.idle f b address in_board ok);
+        follows = at.opened_follows f b address in_board ok (store address word) (kit.op_store page act) clearing (invalidates st.number page e.copies) mails seat kept.0 opens (refl, refl, refl, same_has) refl refl same
+            (λ c _. invalidates_ask n b c entry.copies mails refl) (inr (invalidates_ask n b b entry.copies mails refl, refl));
+        right = at.none_open f b address in_board ok;
         works = λ d. absurd d;
       }
 
@@ -194,18 +181,9 @@ module _ {n p : ℕ} {l : specs.Ledger} {s : Running} {w : ℕ} (f : Follows n p
       let same = at.own_posts f b address in_board ok model.store sort.Store e.hint hint_is refl in
       record {
         work_left = left_of kept.0;
-        follows = record {
-          machine = kit.becomes k b page seat entry mails k.link;
-          told = history.opening f.told b (kit.op_store page act) mails;
-          kept = kept.0;
-          matches = at.opening_matches f b address in_board ok (board.asking_store st e address word) opens seat entry mails
-              (record { stage = (refl, refl, refl); waiting = ap (map request_image) (sym (at.none_waits f b address in_board ok)) }) image same;
-          agrees = at.opened_agrees f b address in_board ok (store address word) (kit.op_store page act) asking (own_request sort.Store st.number page e.hint ∷ []) mails refl same
-              (at.asks_none f b address in_board ok model.store entry.hint) (inl (at.asks_one f b address in_board ok model.store entry.hint));
-          room = f.room;
-          left = refl;
-        };
-        right = f.agrees.pending b in_board ∙ ap pending_of (at.idle f b address in_board ok);
+        follows = at.opened_follows f b address in_board ok (store address word) (kit.op_store page act) asking (own_request sort.Store st.number page e.hint ∷ []) mails seat kept.0 opens (refl, refl, refl) refl refl same
+            (at.asks_none f b address in_board ok model.store entry.hint) (inl (at.asks_one f b address in_board ok model.store entry.hint));
+        right = at.none_open f b address in_board ok;
         works = λ d. absurd d;
       }
 
