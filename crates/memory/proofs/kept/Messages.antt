@@ -17,11 +17,11 @@ abbrev pub listed : {W : Type 0} → (Mail W → Mail W → Bool) → Mail W →
 listed same x [] = 0
 listed same x (m ∷ ms) = bit (same x m) + listed same x ms
 
--- there are no requests among invalidations
 requests_app : {W : Type 0} (x : ℕ) (xs ys : List (Mail W)) → requests x (xs ++ ys) ≡ requests x xs + requests x ys
 requests_app x [] ys = omega arith
 requests_app x (m ∷ xs) ys = omega (arith, requests_app x xs ys)
 
+-- there are no requests among invalidations
 pub invalidates_ask : {W : Type 0} (m a x : ℕ) (c : Boards) (ms : List (Mail W)) → ms ≡ invalidates m a c → requests x ms ≡ 0
 invalidates_ask {W} m a x c ms e = ap (requests x) e ∙ go m
   where

@@ -1,4 +1,4 @@
--- A kit of boards over a bag of messages: what a board does with a message, and how its state is told by its pages.
+-- A kit of boards over a bag of messages: what a board does with a message, and what it is for a kit to be told by its pages.
 use Rattle.std.specs.Prelude.{◌≡◌, ℕ, zero, suc, ◌+◌, Bool, true, false, cond, ◌&&◌, List, [], ◌∷◌, ◌++◌, ◌==◌}
 use Rattle.wire.specs.Bags.{Bag, ◌&◌, total}
 use Rattle.memory.proofs.model.Board.{Kind, load, store, is_load, Req, Entry, Mail, request, copy, grant, invalidate, acknowledge, got_copy, drop_entry, store_entry, got_grant, serve_entry, serve_mail, serve_entries, serve_mails}
