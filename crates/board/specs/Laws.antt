@@ -10,9 +10,11 @@ use Rattle.board.specs.declared.entry.Access.TheVariants as access
 use Rattle.board.specs.declared.request.AccessKind.TheVariants.{Store}
 use Rattle.board.specs.declared.request.Request.{Request}
 use Rattle.board.specs.declared.stage.OpenLoad.{OpenLoad}
-use Rattle.board.specs.declared.stage.Stage.TheVariants.{LoadAsked}
+use Rattle.board.specs.declared.stage.OpenStore.{OpenStore}
+use Rattle.board.specs.declared.stage.Stage.TheVariants.{LoadAsked, StoreAsked}
 use Rattle.board.specs.Addresses.{page_of}
 use Rattle.board.specs.Boards.{BoardState}
+use Rattle.board.specs.Posts.{acknowledgement}
 use Rattle.board.specs.Serving.{owns, served, entry_after}
 use Rattle.board.specs.Steps.{arrive, request_in}
 
@@ -47,3 +49,7 @@ HintStays = (s : BoardState) (e : PageEntry) (m : Message) → m.kind ≡ Invali
 -- while a load is open, no invalidate for its page is acknowledged
 abbrev pub LoadsKeepCopies : Type 0
 LoadsKeepCopies = (s : BoardState) (e : PageEntry) (m : Message) (load : OpenLoad) → s.stage ≡ LoadAsked load → page_of load.address ≡ m.page → m.kind ≡ Invalidate → (arrive s e m).posts ≡ []
+
+-- while a store asks for its page, an invalidate is acknowledged at once, for that page too
+abbrev pub StoresGiveCopiesBack : Type 0
+StoresGiveCopiesBack = (s : BoardState) (e : PageEntry) (m : Message) (store : OpenStore) → s.stage ≡ StoreAsked store → m.kind ≡ Invalidate → (arrive s e m).posts ≡ acknowledgement s.number m.page m.from ∷ []

@@ -1,4 +1,4 @@
-ghost use Rattle.board.specs.Laws.{OthersPassOn, OneOwner, ServedOrKept, StoreFinishes, HintStays, LoadsKeepCopies};
+ghost use Rattle.board.specs.Laws.{OthersPassOn, OneOwner, ServedOrKept, StoreFinishes, HintStays, LoadsKeepCopies, StoresGiveCopiesBack};
 
 /// What the rules of a board come to.
 pub fn board_laws()
@@ -8,4 +8,5 @@ pub fn board_laws()
     ensures stores { StoreFinishes }
     ensures hints { HintStays }
     ensures loads { LoadsKeepCopies }
+    ensures copies { StoresGiveCopiesBack }
 {}
