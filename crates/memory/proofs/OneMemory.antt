@@ -44,12 +44,12 @@ use Rattle.memory.proofs.images.Stores as stores
 use Rattle.memory.proofs.kept.WorkLeft.{left_bound, none_left}
 use Rattle.memory.proofs.kept.FewWait.{link_bound}
 use Rattle.memory.proofs.kept.EqualMessages.{same_law}
-use Rattle.memory.proofs.model.Calls as history
+use Rattle.memory.proofs.model.Ledgers as ledgers
 use Rattle.memory.proofs.model.Kit as kit
 use Rattle.memory.proofs.model.Sums.{sum_to, bit}
 
 -- where something is open in the model, it is so in the ledger
-open_is : (o : Option Access) → history.is_open (op_image o) ≡ is_open o
+open_is : (o : Option Access) → ledgers.is_open (op_image o) ≡ is_open o
 open_is None = refl
 open_is (Some (load address)) = refl
 open_is (Some (store address word)) = refl
@@ -196,19 +196,19 @@ module _ {n p : ℕ} {l : Ledger} {s : Running} {w : ℕ} (f : Follows n p l s w
   fine (Deliver pick) answer posted t d = deliveries_fine pick answer posted t d
 
   -- The work that is left.
-  counts_open : (m : ℕ) → m ≤ n → sum_to m (λ x. bit (history.is_open (f.told.opens x))) ≡ open_accesses m l
+  counts_open : (m : ℕ) → m ≤ n → sum_to m (λ x. bit (ledgers.is_open (f.told.opens x))) ≡ open_accesses m l
   counts_open zero le = refl
   counts_open (suc m) le =
-      let same : history.is_open (f.told.opens m) ≡ is_open (l.pending m) = open_in_model m (omega (arith, le)) in
+      let same : ledgers.is_open (f.told.opens m) ≡ is_open (l.pending m) = open_in_model m (omega (arith, le)) in
       omega (arith, ap bit same, counts_open m (omega (arith, le)))
     where
-      open_in_model : (x : ℕ) → x < n → history.is_open (f.told.opens x) ≡ is_open (l.pending x)
+      open_in_model : (x : ℕ) → x < n → ledgers.is_open (f.told.opens x) ≡ is_open (l.pending x)
       open_in_model x lt =
-          ap history.is_open (f.kept.opens x ∙ op_is (state_at s.kit x).stage (f.machine.board x).seat (f.matches.boards.seats x lt).stage) ∙ open_is (pending_of (state_at s.kit x).stage) ∙ ap is_open (sym (f.agrees.pending x lt))
+          ap ledgers.is_open (f.kept.opens x ∙ op_is (state_at s.kit x).stage (f.machine.board x).seat (f.matches.boards.seats x lt).stage) ∙ open_is (pending_of (state_at s.kit x).stage) ∙ ap is_open (sym (f.agrees.pending x lt))
 
   bounded : w ≤ (3 * n - 4) * open_accesses n l
   bounded =
-      let same : (3 * n - 4) * history.opens_count n f.told ≡ (3 * n - 4) * open_accesses n l = ap (λ x. (3 * n - 4) * x) (counts_open n (omega arith)) in
+      let same : (3 * n - 4) * ledgers.opens_count n f.told ≡ (3 * n - 4) * open_accesses n l = ap (λ x. (3 * n - 4) * x) (counts_open n (omega arith)) in
       omega (arith, f.left, left_bound f.kept, same)
 
   rests : w ≡ 0 → NothingOpen l

@@ -7,4 +7,6 @@ pub mod Steps
 pub mod Invariant
 pub mod Weights
 pub mod Kit
+pub mod Told
 pub mod Calls
+pub mod Ledgers

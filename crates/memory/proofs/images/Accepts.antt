@@ -20,7 +20,7 @@ use Rattle.lone.proofs.EntryForms.{no_access}
 use Rattle.lone.proofs.LoneForms.{LoneTold, lone_told}
 use Rattle.memory.specs.Calls.{Running}
 use Rattle.memory.specs.Kits.{state_at, table_of, board_at}
-use Rattle.memory.proofs.kept.Messages.{taken_flies}
+use Rattle.memory.proofs.kept.Messages.{taken_on_link}
 use Rattle.memory.proofs.kept.Delivered.{deliver_sim, request_is, invalidate_is}
 use Rattle.memory.proofs.kept.KitKept.{Kept}
 use Rattle.memory.proofs.kept.Roots.{own}
@@ -29,9 +29,10 @@ use Rattle.memory.proofs.kept.Sets.{facts}
 use Rattle.memory.proofs.kept.DeliverySteps.{Sim}
 use Rattle.memory.proofs.kept.Following.{reach_fixed}
 use Rattle.memory.proofs.model.Board as model
-use Rattle.memory.proofs.model.Calls.{Ledger}
+use Rattle.memory.proofs.model.Ledgers.{Ledger}
 use Rattle.memory.proofs.model.Invariant.{Inv}
 use Rattle.memory.proofs.model.Kit as kit
+use Rattle.memory.proofs.model.Told as by_pages
 use Rattle.memory.proofs.model.Sums.{bit}
 use Rattle.memory.proofs.model.Page.{Journey, home, asking, clearing, Mark, sent, Page, busy, rooted, awaits, queued_at, occ, mark, mark_of, place}
 use Rattle.memory.proofs.images.Expected.{waits_none, to_is, copy_expected, grant_expected, acknowledgement_expected}
@@ -71,12 +72,12 @@ module _ {n : ℕ} {ml : Ledger W} {k : kit.Kit W} (z : Kept same_mail n ml k) (
   ]
     where
       at : p ≡ (k.board a).seat.page
-      at = on_its_page (k.board a).seat p d (ap kit.stage_of (sym e) ∙ z.told.stages a p)
+      at = on_its_page (k.board a).seat p d (ap by_pages.stage_of (sym e) ∙ z.told.stages a p)
 
       shut : (r ≡ p → ⊥) → kit.open_on (k.board a).seat r ≡ kit.closed
       shut ne = off_its_page (k.board a).seat r (λ q. ne (q ∙ sym at))
 
-      away : (j : Journey W) → kit.stage_of j ≡ kit.closed → queued_at v j ≡ false
+      away : (j : Journey W) → by_pages.stage_of j ≡ kit.closed → queued_at v j ≡ false
       away j h = grind arith
 
   listed : (a u v h : ℕ) (d : model.Kind) → P.journey a ≡ asking d u h → occ a (k.board v).seat.waiting ≡ 0
@@ -101,10 +102,10 @@ module _ {n : ℕ} {ml : Ledger W} {k : kit.Kit W} (z : Kept same_mail n ml k) (
       let at : P.journey P.root ≡ clearing h m = ap P.journey (sym root) ∙ e in
       ap (λ t. mark_of t x) at ∙ s
 
-  home_of : (j : Journey W) → kit.stage_of j ≡ kit.closed → j ≡ home
+  home_of : (j : Journey W) → by_pages.stage_of j ≡ kit.closed → j ≡ home
   home_of j h = grind arith
 
-  pub clearing_rooted : (j : Journey W) (h : ℕ) → kit.stage_of j ≡ kit.clears h → rooted j ≡ true
+  pub clearing_rooted : (j : Journey W) (h : ℕ) → by_pages.stage_of j ≡ kit.clears h → rooted j ≡ true
   clearing_rooted j h e = grind arith
 
 -- a message that is taken from the link of a kit
@@ -127,9 +128,9 @@ module _ {n p : ℕ} {ml : Ledger W} {k : kit.Kit W} {s : Running} (z : Kept sam
   pub taken : k.link ≡ post_image m & map_bag post_image rest
   taken = mt.link ∙ ap (map_bag post_image) waited
 
-  flies : (x : model.Mail W) → mail_image m ≡ x → kit.mail_of (kit.owner x) (Q.journey (kit.owner x)) (kit.slot x) ≡ kit.just x
-  flies x q = subst (λ x. kit.mail_of (kit.owner x) (Q.journey (kit.owner x)) (kit.slot x) ≡ kit.just x) q
-      (taken_flies same_mail same_law m.page (mail_image m) k.link (map_bag post_image rest) Q.journey taken (z.told.mails m.page))
+  on_link : (x : model.Mail W) → mail_image m ≡ x → by_pages.mail_of (by_pages.owner x) (Q.journey (by_pages.owner x)) (by_pages.slot x) ≡ kit.just x
+  on_link x q = subst (λ x. by_pages.mail_of (by_pages.owner x) (Q.journey (by_pages.owner x)) (by_pages.slot x) ≡ kit.just x) q
+      (taken_on_link same_mail same_law m.page (mail_image m) k.link (map_bag post_image rest) Q.journey taken (z.told.mails m.page))
 
   abbrev sim : Sim same_mail n k z.pages m.page (mail_image m) (map_bag post_image rest)
   sim = deliver_sim same_mail same_law n (ml.memory m.page) k z.pages z.told m.page (z.each m.page) (map_bag post_image rest) (mail_image m) taken
@@ -168,7 +169,7 @@ module _ {n p : ℕ} {ml : Ledger W} {k : kit.Kit W} {s : Running} (z : Kept sam
   -- Requests.
   new_request : (d : model.Kind) → mail_image m ≡ model.request d m.to m.asker m.hops → new_asker st m ≡ true
   new_request d q =
-      let e = request_is same_mail same_law n (ml.memory m.page) k z.pages z.told m.page (z.each m.page) (map_bag post_image rest) d m.to m.asker m.hops (Q.journey m.asker) (flies (model.request d m.to m.asker m.hops) q) in
+      let e = request_is same_mail same_law n (ml.memory m.page) k z.pages z.told m.page (z.each m.page) (map_bag post_image rest) d m.to m.asker m.hops (Q.journey m.asker) (on_link (model.request d m.to m.asker m.hops) q) in
       let another : eqb m.asker st.number ≡ false = ne_eqb m.asker st.number (λ x. asks_another z m.page m.asker m.to m.hops d e (x ∙ number_is)) in
       let none : waits m.asker st.waiting ≡ false = waits_none m.asker st.waiting (sym (ap (occ m.asker) seat_is.waiting) ∙ listed z m.page m.asker m.to m.to m.hops d e) in
       and_from (not (eqb m.asker st.number)) (not (waits m.asker st.waiting)) (not_from_false (eqb m.asker st.number) another) (not_from_false (waits m.asker st.waiting) none)
@@ -178,7 +179,7 @@ module _ {n p : ℕ} {ml : Ledger W} {k : kit.Kit W} {s : Running} (z : Kept sam
   Told = (h : ℕ) × (f : ℕ → Mark) × (Q.journey m.from ≡ clearing h f) × (f m.to ≡ sent)
 
   told_to : mail_image m ≡ model.invalidate m.from m.to → Told
-  told_to q = invalidate_is same_mail same_law n (ml.memory m.page) k z.pages z.told m.page (z.each m.page) (map_bag post_image rest) m.from m.to (Q.journey m.from) (flies (model.invalidate m.from m.to) q)
+  told_to q = invalidate_is same_mail same_law n (ml.memory m.page) k z.pages z.told m.page (z.each m.page) (map_bag post_image rest) m.from m.to (Q.journey m.from) (on_link (model.invalidate m.from m.to) q)
 
   abbrev mine : Bool
   mine = owns st.number here
@@ -240,7 +241,7 @@ module _ {n p : ℕ} {ml : Ledger W} {k : kit.Kit W} {s : Running} (z : Kept sam
       let stage : StageIs (LoadAsked a) seat = rw q at seat_is.stage in
       let at : seat.page ≡ m.page = stage.1 ∙ eqb-true (page_of a.address) m.page on in
       let marked : mark Q m.to ≡ sent = told_mark z m.page m.from m.to t.0 t.1 t.2 t.3 in
-      let deferral : seat.deferral ≡ kit.absent = z.told.deferrals m.to ∙ ap (λ r. kit.deferral_of (mark (z.pages r) m.to) (z.pages r).root) at ∙ ap (λ x. kit.deferral_of x Q.root) marked in
+      let deferral : seat.deferral ≡ kit.absent = z.told.deferrals m.to ∙ ap (λ r. by_pages.deferral_of (mark (z.pages r) m.to) (z.pages r).root) at ∙ ap (λ x. by_pages.deferral_of x Q.root) marked in
       by a.deferred (sym stage.2 ∙ deferral)
     where
       by : (d : Option ℕ) → deferral_image d ≡ kit.absent → is_some d ≡ false

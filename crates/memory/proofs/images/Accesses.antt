@@ -34,7 +34,7 @@ use Rattle.memory.proofs.kept.Sums.{upd_same, upd_other}
 use Rattle.memory.proofs.kept.KitKept.{Kept, left_of}
 use Rattle.memory.proofs.kept.EqualMessages.{same_mail}
 use Rattle.memory.proofs.model.Board as model
-use Rattle.memory.proofs.model.Calls as history
+use Rattle.memory.proofs.model.Ledgers as ledgers
 use Rattle.memory.proofs.model.Kit as kit
 use Rattle.memory.proofs.model.Sums.{upd, bit}
 use Rattle.memory.proofs.images.Follows.{Follows}
@@ -156,9 +156,9 @@ module _ {n p : ℕ} {l : specs.Ledger} {s : Running} {w : ℕ} (f : Follows n p
   -- the count of a request that was just posted, or of none; the others as they were
   opened_counts : (stage : Stage) (ps : List Message) (mails : List (model.Mail W)) → map (on_page page) mails ≡ map post_image ps → ((board : ℕ) → (board ≡ b → ⊥) → kit.requests board mails ≡ 0) →
       ((kit.requests b mails ≡ 1) ⊎ ((kit.requests b mails ≡ 0) × (not_asked stage ≡ true))) →
-      (c : ℕ) → Counts n (kit_after s.kit b page (at_stage st stage) e) c (specs.changed l.requests b 0 c + specs.requests_of c ps) (upd (history.more_passed f.told mails) b (kit.requests b mails - 1) c)
+      (c : ℕ) → Counts n (kit_after s.kit b page (at_stage st stage) e) c (specs.changed l.requests b 0 c + specs.requests_of c ps) (upd (ledgers.more_passed f.told mails) b (kit.requests b mails - 1) c)
   opened_counts stage ps mails same none_else mine c = elim (cases_eq c b) [
-    | inl q ↦ subst (λ x. Counts n (kit_after s.kit b page (at_stage st stage) e) x (specs.changed l.requests b 0 x + specs.requests_of x ps) (upd (history.more_passed f.told mails) b (kit.requests b mails - 1) x)) (sym q) here
+    | inl q ↦ subst (λ x. Counts n (kit_after s.kit b page (at_stage st stage) e) x (specs.changed l.requests b 0 x + specs.requests_of x ps) (upd (ledgers.more_passed f.told mails) b (kit.requests b mails - 1) x)) (sym q) here
     | inr ne ↦ there ne
   ]
     where
@@ -168,22 +168,22 @@ module _ {n p : ℕ} {l : specs.Ledger} {s : Running} {w : ℕ} (f : Follows n p
       at_b : specs.changed l.requests b 0 b ≡ 0
       at_b = changed_here l.requests b 0
 
-      up_b : upd (history.more_passed f.told mails) b (kit.requests b mails - 1) b ≡ kit.requests b mails - 1
-      up_b = upd_same (history.more_passed f.told mails) b (kit.requests b mails - 1)
+      up_b : upd (ledgers.more_passed f.told mails) b (kit.requests b mails - 1) b ≡ kit.requests b mails - 1
+      up_b = upd_same (ledgers.more_passed f.told mails) b (kit.requests b mails - 1)
 
       stage_now : not_asked stage ≡ true → not_asked (state_at (kit_after s.kit b page (at_stage st stage) e) b).stage ≡ true
       stage_now h = ap (λ (x : BoardState). not_asked x.stage) (state_here s.kit f.matches.sized.shape b page room (at_stage st stage) e) ∙ h
 
-      here : Counts n (kit_after s.kit b page (at_stage st stage) e) b (specs.changed l.requests b 0 b + specs.requests_of b ps) (upd (history.more_passed f.told mails) b (kit.requests b mails - 1) b)
+      here : Counts n (kit_after s.kit b page (at_stage st stage) e) b (specs.changed l.requests b 0 b + specs.requests_of b ps) (upd (ledgers.more_passed f.told mails) b (kit.requests b mails - 1) b)
       here = elim mine [
         | inl one ↦ inl (omega (arith, at_b, up_b, of b, one))
         | inr none ↦ inr (omega (arith, at_b, of b, none.0), omega (arith, up_b, none.0), λ _. stage_now none.1)
       ]
 
-      there : (c ≡ b → ⊥) → Counts n (kit_after s.kit b page (at_stage st stage) e) c (specs.changed l.requests b 0 c + specs.requests_of c ps) (upd (history.more_passed f.told mails) b (kit.requests b mails - 1) c)
+      there : (c ≡ b → ⊥) → Counts n (kit_after s.kit b page (at_stage st stage) e) c (specs.changed l.requests b 0 c + specs.requests_of c ps) (upd (ledgers.more_passed f.told mails) b (kit.requests b mails - 1) c)
       there ne =
           let was = changed_there l.requests b 0 c ne in
-          let up : upd (history.more_passed f.told mails) b (kit.requests b mails - 1) c ≡ f.told.passed c + kit.requests c mails = upd_other (history.more_passed f.told mails) b (kit.requests b mails - 1) c ne in
+          let up : upd (ledgers.more_passed f.told mails) b (kit.requests b mails - 1) c ≡ f.told.passed c + kit.requests c mails = upd_other (ledgers.more_passed f.told mails) b (kit.requests b mails - 1) c ne in
           let none = none_else c ne in
           elim (f.agrees.counts c) [
             | inl e ↦ inl (omega (arith, was, up, of c, none, e))
@@ -193,7 +193,7 @@ module _ {n p : ℕ} {l : specs.Ledger} {s : Running} {w : ℕ} (f : Follows n p
   pub opened_agrees : (x : Access) (o : kit.Open W) (stage : Stage) (ps : List Message) (mails : List (model.Mail W)) → pending_of stage ≡ Some x → map (on_page page) mails ≡ map post_image ps →
       ((board : ℕ) → (board ≡ b → ⊥) → kit.requests board mails ≡ 0) →
       ((kit.requests b mails ≡ 1) ⊎ ((kit.requests b mails ≡ 0) × (not_asked stage ≡ true))) →
-      Agrees n p (opened_ledger x ps) (state_after (at_stage st stage) e ps) (history.opening f.told b o mails)
+      Agrees n p (opened_ledger x ps) (state_after (at_stage st stage) e ps) (ledgers.opening f.told b o mails)
   opened_agrees x o stage ps mails pending same none_else mine = record {
     words = f.agrees.words;
     counts = λ c. opened_counts stage ps mails same none_else mine c;
@@ -252,13 +252,13 @@ module _ {n p : ℕ} {l : specs.Ledger} {s : Running} {w : ℕ} (f : Follows n p
   asks_none kd t c ne = ap (λ (x : Bool). bit x + 0) (ne_eqb b c (λ q. ne (sym q)))
 
   -- an access that opened is followed
-  pub opened_follows : (x : Access) (op : kit.Open W) (stage : Stage) (ps : List Message) (mails : List (model.Mail W)) (c : kit.Seat W) (kept : Kept same_mail n (history.opening f.told b op mails) (kit.becomes k b page c ((k.board b).entry page) mails k.link)) →
+  pub opened_follows : (x : Access) (op : kit.Open W) (stage : Stage) (ps : List Message) (mails : List (model.Mail W)) (c : kit.Seat W) (kept : Kept same_mail n (ledgers.opening f.told b op mails) (kit.becomes k b page c ((k.board b).entry page) mails k.link)) →
       Opens (board.opened st e stage ps) → StageIs stage c → c.waiting ≡ [] → pending_of stage ≡ Some x → map (on_page page) mails ≡ map post_image ps →
       ((board : ℕ) → (board ≡ b → ⊥) → kit.requests board mails ≡ 0) → ((kit.requests b mails ≡ 1) ⊎ ((kit.requests b mails ≡ 0) × (not_asked stage ≡ true))) →
       Follows n p (opened_ledger x ps) (state_after (at_stage st stage) e ps) (left_of kept)
   opened_follows x op stage ps mails c kept opens is none pending same none_else mine = record {
     machine = kit.becomes k b page c ((k.board b).entry page) mails k.link;
-    told = history.opening f.told b op mails;
+    told = ledgers.opening f.told b op mails;
     kept = kept;
     matches = opening_matches (board.opened st e stage ps) opens c ((k.board b).entry page) mails (record { stage = is; waiting = none ∙ ap (map request_image) (sym none_waits) }) entry_is same;
     agrees = opened_agrees x op stage ps mails pending same none_else mine;

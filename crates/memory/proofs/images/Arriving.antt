@@ -16,6 +16,7 @@ use Rattle.memory.proofs.kept.NothingWaits.{quiet_none}
 use Rattle.memory.proofs.kept.EqualMessages.{same_law}
 use Rattle.memory.proofs.model.Board as model
 use Rattle.memory.proofs.model.Calls as history
+use Rattle.memory.proofs.model.Ledgers as ledgers
 use Rattle.memory.proofs.model.Kit as kit
 use Rattle.memory.proofs.model.Steps.{Answer}
 use Rattle.memory.proofs.model.Sums.{sum_to, bit}
@@ -52,7 +53,7 @@ module _ {n p : ℕ} {l : specs.Ledger} {s : Running} {w : ℕ} (f : Follows n p
         (delivery.counts_after f.kept f.matches m rest waited b (l.requests b) (f.told.passed b) (f.agrees.counts b))
 
     abbrev Agreed : Option Finished → Type 0
-    Agreed fin = Agrees n p (specs.entered l (record { call = Deliver pick; answer = Ok (Arrived (board.answer_to m mine.number fin)); posted = step.posts })) after (history.after f.told history.call_deliver (history.said_of says) mails)
+    Agreed fin = Agrees n p (specs.entered l (record { call = Deliver pick; answer = Ok (Arrived (board.answer_to m mine.number fin)); posted = step.posts })) after (ledgers.after f.told history.call_deliver (history.said_of says) mails)
 
     agrees_by : (fin : Option Finished) → AnswerIs fin says → Goes mine mine.stage step fin → Agreed fin
     agrees_by None a g =
@@ -87,7 +88,7 @@ module _ {n p : ℕ} {l : specs.Ledger} {s : Running} {w : ℕ} (f : Follows n p
           work_left = left_of y.0;
           follows = record {
             machine = kit.becomes f.machine m.to m.page (delivery.reply f.kept f.matches m rest waited).seat (delivery.reply f.kept f.matches m rest waited).entry mails (map_bag post_image rest);
-            told = history.after f.told history.call_deliver (history.said_of says) mails;
+            told = ledgers.after f.told history.call_deliver (history.said_of says) mails;
             kept = y.0;
             matches = delivery.matches_after f.kept f.matches m rest waited;
             agrees = agrees_by step.finished is goes;
@@ -99,16 +100,16 @@ module _ {n p : ℕ} {l : specs.Ledger} {s : Running} {w : ℕ} (f : Follows n p
         }
 
   -- no message
-  none_open_counts : (m : ℕ) → ((x : ℕ) → f.told.opens x ≡ kit.absent) → sum_to m (λ x. bit (history.is_open (f.told.opens x))) ≡ 0
+  none_open_counts : (m : ℕ) → ((x : ℕ) → f.told.opens x ≡ kit.absent) → sum_to m (λ x. bit (ledgers.is_open (f.told.opens x))) ≡ 0
   none_open_counts zero h = refl
-  none_open_counts (suc m) h = omega (arith, ap (λ x. bit (history.is_open x)) (h m), none_open_counts m h)
+  none_open_counts (suc m) h = omega (arith, ap (λ x. bit (ledgers.is_open x)) (h m), none_open_counts m h)
 
   none_left : s.waiting ≡ empty → w ≡ 0
   none_left e =
       let link : f.machine.link ≡ empty = f.matches.link ∙ ap (map_bag post_image) e in
       let none = none_open_counts n (quiet_none same_law f.kept link) in
       let bound = left_bound f.kept in
-      let zero_work : (3 * n - 4) * history.opens_count n f.told ≡ 0 = ap (λ x. (3 * n - 4) * x) none ∙ omega arith in
+      let zero_work : (3 * n - 4) * ledgers.opens_count n f.told ≡ 0 = ap (λ x. (3 * n - 4) * x) none ∙ omega arith in
       omega (arith, bound, zero_work, f.left)
 
   pub quiet : (pick : ℕ) → s.waiting ≡ empty → GoesOn n p l w (Deliver pick) (Ok Quiet) [] s

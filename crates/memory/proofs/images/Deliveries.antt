@@ -31,8 +31,10 @@ use Rattle.memory.specs.Kits.{Kit, state_at, table_of, board_at}
 use Rattle.memory.proofs.kept.KitKept.{Kept, left_of}
 use Rattle.memory.proofs.kept.DeliveryKept.{delivered}
 use Rattle.memory.proofs.kept.EqualMessages.{same_mail, same_law}
-use Rattle.memory.proofs.model.Calls.{Ledger, call_deliver, after, Good, said_of}
+use Rattle.memory.proofs.model.Calls.{call_deliver, said_of}
+use Rattle.memory.proofs.model.Ledgers.{Ledger, after, Good}
 use Rattle.memory.proofs.model.Kit as kit
+use Rattle.memory.proofs.model.Told as by_pages
 use Rattle.memory.proofs.model.Steps.{Answer}
 use Rattle.memory.proofs.model.Page.{busy, awaits, mark, mark_of}
 use Rattle.memory.proofs.images.Accepts.{it, st, here, seat, taken, number_is, seat_is, arrives_is, rows, told, is_expected, clearing_rooted}
@@ -222,7 +224,7 @@ module _ {n p : ℕ} {ml : Ledger W} {k : kit.Kit W} {s : Running} (z : Kept sam
       let lb : b < n = ((y.each m.page).core.ways.askers b (ap busy j)).in_range in
       let seat = (now.board b).seat in
       let is = (matches_after.boards.seats b lb).stage in
-      asked_not (state_at kit_now b).stage seat d is (unasked_now b lb (h lb)) (stage_asked seat m.page d (ap kit.stage_of (sym j) ∙ y.told.stages b m.page)))
+      asked_not (state_at kit_now b).stage seat d is (unasked_now b lb (h lb)) (stage_asked seat m.page d (ap by_pages.stage_of (sym j) ∙ y.told.stages b m.page)))
 
   pub same_requests : (b : ℕ) → requests_of b (board.arrive mine entry m).posts ≡ kit.requests b reply.mails
   same_requests b = requests_are b m.page reply.mails (board.arrive mine entry m).posts matched.posts_are

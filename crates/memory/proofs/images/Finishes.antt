@@ -27,7 +27,8 @@ use Rattle.memory.specs.Placements.{Words}
 use Rattle.memory.specs.declared.answer.Answer.TheVariants.{Arrived}
 use Rattle.memory.specs.declared.call.Call.TheVariants.{Deliver}
 use Rattle.memory.proofs.model.Board as model
-use Rattle.memory.proofs.model.Calls.{Ledger, call_deliver, after, Good, said_of, stored}
+use Rattle.memory.proofs.model.Calls.{call_deliver, said_of}
+use Rattle.memory.proofs.model.Ledgers.{Ledger, after, Good, stored}
 use Rattle.memory.proofs.model.Kit as kit
 use Rattle.memory.proofs.model.Steps.{Answer, nothing, read_at, written_at}
 use Rattle.memory.proofs.images.Arrivals.{AnswerIs}

@@ -10,7 +10,7 @@ use Rattle.memory.specs.declared.answer.Answer.{Answer}
 use Rattle.memory.specs.declared.call.Call.{Call}
 use Rattle.memory.proofs.kept.KitKept.{Kept, left_of}
 use Rattle.memory.proofs.kept.EqualMessages.{same_mail}
-use Rattle.memory.proofs.model.Calls.{Ledger}
+use Rattle.memory.proofs.model.Ledgers.{Ledger}
 use Rattle.memory.proofs.model.Kit.{Kit}
 use Rattle.memory.proofs.images.Images.{W}
 use Rattle.memory.proofs.images.Ledgers.{Agrees, counts_on}

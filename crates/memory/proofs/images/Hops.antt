@@ -8,7 +8,8 @@ use Rattle.memory.proofs.kept.Delivered.{request_is}
 use Rattle.memory.proofs.kept.EqualMessages.{same_mail, same_law}
 use Rattle.memory.proofs.model.Board.{Kind, Mail, request, copy, grant, invalidate, acknowledge}
 use Rattle.memory.proofs.model.Invariant.{Inv}
-use Rattle.memory.proofs.model.Kit.{Kit, Post, Maybe, absent, just, Told, post_all, mail_of, is_it, requests, asks_of, times, owner, slot}
+use Rattle.memory.proofs.model.Kit.{Kit, Post, Maybe, absent, just, post_all, requests, asks_of}
+use Rattle.memory.proofs.model.Told.{Told, mail_of, is_it, times, owner, slot}
 use Rattle.memory.proofs.model.Page.{asking, Page, busy, far}
 use Rattle.memory.proofs.model.Sums.{bit}
 use Rattle.memory.proofs.images.Images.{W}

@@ -17,7 +17,7 @@ use Rattle.memory.specs.Ledgers as specs
 use Rattle.memory.specs.Placements.{Words, with_put}
 use Rattle.memory.proofs.kept.Sums.{upd_same, upd_other}
 use Rattle.memory.proofs.model.Board.{Mail}
-use Rattle.memory.proofs.model.Calls.{Ledger}
+use Rattle.memory.proofs.model.Ledgers.{Ledger}
 use Rattle.memory.proofs.model.Kit.{Post, requests, asks_of}
 use Rattle.memory.proofs.model.Sums.{upd}
 use Rattle.memory.proofs.images.Images.{W, mail_by, post_image, put_word}

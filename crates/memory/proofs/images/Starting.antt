@@ -22,6 +22,7 @@ use Rattle.memory.proofs.kept.Start.{start_kept, start_left}
 use Rattle.memory.proofs.kept.EqualMessages.{same_mail}
 use Rattle.memory.proofs.model.Board as model
 use Rattle.memory.proofs.model.Calls as history
+use Rattle.memory.proofs.model.Ledgers as ledgers
 use Rattle.memory.proofs.model.Kit as kit
 use Rattle.memory.proofs.model.Sets.{nobody}
 use Rattle.board.specs.declared.stage.Stage.TheVariants.{Idle}
@@ -172,7 +173,7 @@ module _ (n p : ℕ) where
       fit = record { none_unfit = refl };
     }
 
-    agrees : (limit : ℕ) → Agrees n p (fresh (array qs)) (begun n p limit qs) (history.first_ledger words)
+    agrees : (limit : ℕ) → Agrees n p (fresh (array qs)) (begun n p limit qs) (ledgers.first_ledger words)
     agrees limit = record {
       words = record {
         long = λ r l. (shaped_placing n p qs few_pages inside).words r (omega (arith, l, few_pages));
@@ -187,7 +188,7 @@ module _ (n p : ℕ) where
     pub starts : (limit : ℕ) → n * n + 16 ≤ limit → Follows n p (fresh (array qs)) (begun n p limit qs) 0
     starts limit room = record {
       machine = machine;
-      told = history.first_ledger words;
+      told = ledgers.first_ledger words;
       kept = start_kept same_mail n zeros words some;
       matches = matches limit;
       agrees = agrees limit;

@@ -26,6 +26,7 @@ use Rattle.memory.proofs.kept.Messages.{invalidates_ask}
 use Rattle.memory.proofs.kept.EqualMessages.{same_law}
 use Rattle.memory.proofs.model.Board as model
 use Rattle.memory.proofs.model.Calls as history
+use Rattle.memory.proofs.model.Ledgers as ledgers
 use Rattle.memory.proofs.model.Kit as kit
 use Rattle.memory.proofs.model.Page.{is_none}
 use Rattle.memory.proofs.images.Accesses as at
@@ -118,7 +119,7 @@ module _ {n p : ℕ} {l : specs.Ledger} {s : Running} {w : ℕ} (f : Follows n p
         work_left = left_of kept.0;
         follows = record {
           machine = kit.becomes k b page (k.board b).seat (model.store_entry b (act ((k.board b).entry page).words)) [] k.link;
-          told = history.after f.told (history.call_store b page act) (history.answered kit.absent) [];
+          told = ledgers.after f.told (history.call_store b page act) (history.answered kit.absent) [];
           kept = kept.0;
           matches = at.opening_matches f b address in_board ok (board.put st e address word) opens (k.board b).seat (model.store_entry b (act ((k.board b).entry page).words)) [] (at.seat_is f b address in_board ok) (stored o c) refl;
           agrees = record {

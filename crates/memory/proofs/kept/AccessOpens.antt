@@ -2,9 +2,10 @@
 use Rattle.std.proofs.Common.{◌≡◌, ℕ, ◌+◌, ◌-◌, ◌*◌, ◌≤◌, Bool, true, false, List, [], ◌∷◌, sym, refl, ap, ◌∙◌, inl, inr, arith}
 use Rattle.std.proofs.lemmas.Bool.{cases_eq}
 use Rattle.memory.proofs.model.Board.{Kind, Entry, Mail, request}
-use Rattle.memory.proofs.model.Calls.{Ledger, more_passed, opening}
+use Rattle.memory.proofs.model.Ledgers.{Ledger, more_passed, opening}
 use Rattle.memory.proofs.model.Invariant.{Inv}
-use Rattle.memory.proofs.model.Kit.{just, Stage, closed, Board, Kit, Told, becomes, opened_seat, requests, Open, op_by, Equality}
+use Rattle.memory.proofs.model.Kit.{just, Stage, closed, Board, Kit, becomes, opened_seat, requests, Open, op_by}
+use Rattle.memory.proofs.model.Told.{Told, Equality}
 use Rattle.memory.proofs.model.Page.{deferred, Journey, home, Page, busy, far, loading, mark}
 use Rattle.memory.proofs.model.Steps.{goes, Call, opens}
 use Rattle.memory.proofs.model.Sums.{upd}

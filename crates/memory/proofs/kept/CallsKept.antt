@@ -2,8 +2,10 @@
 use Rattle.std.proofs.Common.{◌≡◌, ℕ, ◌<◌, Bool, true, false, ◌⊎◌, List, [], ◌∷◌, sym, refl, ap, ◌∙◌, subst, inl, inr, arith}
 use Rattle.std.proofs.lemmas.Bool.{cases_eq}
 use Rattle.memory.proofs.model.Board.{write, load, store, Entry, Mail, request, store_entry}
-use Rattle.memory.proofs.model.Calls.{Order, Said, Ledger, after, Good, Does, loads_now, loads_later, stores_now, stores_clearing, stores_later, delivers_it, delivers_none}
-use Rattle.memory.proofs.model.Kit.{asked, clears, Seat, Board, Kit, none_below, invalidates, Told, becomes, opened_seat, op_load, op_store, op_of, Equality}
+use Rattle.memory.proofs.model.Calls.{Order, Said, Does, loads_now, loads_later, stores_now, stores_clearing, stores_later, delivers_it, delivers_none}
+use Rattle.memory.proofs.model.Ledgers.{Ledger, after, Good}
+use Rattle.memory.proofs.model.Kit.{asked, clears, Seat, Board, Kit, none_below, invalidates, becomes, opened_seat, op_load, op_store, op_of}
+use Rattle.memory.proofs.model.Told.{Told, Equality}
 use Rattle.memory.proofs.model.Page.{home, asking, clearing, is_none, busy, far, marks}
 use Rattle.memory.proofs.model.Sets.{has}
 use Rattle.memory.proofs.model.Steps.{goes, stored_at, ask_load, ask_store, clear, MayStore, store_now}

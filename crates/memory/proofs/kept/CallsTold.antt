@@ -1,7 +1,8 @@
 -- After a call on a board with nothing open, the kit is told by its pages again.
 use Rattle.std.proofs.Common.{◌≡◌, ℕ, ◌+◌, ◌<◌, Bool, true, false, List, [], ◌∷◌, ap, arith}
 use Rattle.memory.proofs.model.Board.{Kind, Mail, request, store_entry}
-use Rattle.memory.proofs.model.Kit.{absent, just, closed, asked, clears, Kit, invalidates, slot, deferral_of, flies, times, Told, post_all, becomes, opened_seat, Equality}
+use Rattle.memory.proofs.model.Kit.{absent, just, closed, asked, clears, Kit, invalidates, post_all, becomes, opened_seat}
+use Rattle.memory.proofs.model.Told.{slot, deferral_of, on_link, times, Told, Equality}
 use Rattle.memory.proofs.model.Page.{deferred, home, asking, clearing, Page, busy, loading, mark, marks}
 use Rattle.memory.proofs.model.Sets.{has}
 use Rattle.memory.proofs.model.Steps.{goes, stored_at}
@@ -23,7 +24,7 @@ module _ {W : Type 0} (same : Mail W → Mail W → Bool) (law : Equality same) 
   not_awaited : deferral_of (mark P b) P.root ≡ absent
   not_awaited = let e = idle p in grind (arith, facts)
 
-  posted : (ms : List (Mail W)) (q : Page W) → ((x : Mail W) → bit (flies same q.journey x) ≡ bit (flies same P.journey x) + listed same x ms) → (r : ℕ) (x : Mail W) → times same r x (post_all p ms k.link) ≡ bit (flies same (upd pages p q r).journey x)
+  posted : (ms : List (Mail W)) (q : Page W) → ((x : Mail W) → bit (on_link same q.journey x) ≡ bit (on_link same P.journey x) + listed same x ms) → (r : ℕ) (x : Mail W) → times same r x (post_all p ms k.link) ≡ bit (on_link same (upd pages p q r).journey x)
   posted ms q net r x = let a = times_post same law p r x ms k.link in let c = t.mails r x in let d = net x in grind (arith, facts)
 
   -- it asks

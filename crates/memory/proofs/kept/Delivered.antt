@@ -4,14 +4,15 @@ use Rattle.std.proofs.lemmas.Bool.{cases_Bool}
 use Rattle.wire.specs.Bags.{Bag}
 use Rattle.memory.proofs.model.Board.{Kind, Mail, request, copy, grant, invalidate, acknowledge}
 use Rattle.memory.proofs.model.Invariant.{Inv}
-use Rattle.memory.proofs.model.Kit.{just, Post, Kit, none_below, mail_of, Told, Equality}
+use Rattle.memory.proofs.model.Kit.{just, Post, Kit, none_below}
+use Rattle.memory.proofs.model.Told.{mail_of, Told, Equality}
 use Rattle.memory.proofs.model.Page.{Mark, unmarked, sent, deferred, acked, Journey, home, asking, queued, copied, granted, clearing, Page, busy, loading, mark}
 use Rattle.memory.proofs.model.Sets.{has, Boards}
 use Rattle.memory.proofs.model.Sums.{upd}
 use Rattle.memory.proofs.kept.DeliverySteps.{Sim, Takes}
 use Rattle.memory.proofs.kept.InvalidationsDelivered.{grant_sim, defer_sim, drop_sim, ack_sim}
 use Rattle.memory.proofs.kept.LoadFinishes.{load_sim, load_drop_sim}
-use Rattle.memory.proofs.kept.Messages.{taken_flies}
+use Rattle.memory.proofs.kept.Messages.{taken_on_link}
 use Rattle.memory.proofs.kept.RequestDelivered.{join_sim, served_sim}
 use Rattle.memory.proofs.kept.Sets.{facts}
 use Rattle.memory.proofs.kept.StoreFinishes.{grant_free_sim, last_ack_sim}
@@ -55,17 +56,17 @@ module _ {W : Type 0} (same : Mail W → Mail W → Bool) (law : Equality same) 
   -- every message that waits is expected, and moves its page one step
   pub deliver_sim : (m : Mail W) → Takes k p m rest → Sim same n k pages p m rest
   deliver_sim (request d u a h) e =
-      let at = request_is d u a h (P.journey a) (taken_flies same law p (request d u a h) k.link rest P.journey e (t.mails p)) in
+      let at = request_is d u a h (P.journey a) (taken_on_link same law p (request d u a h) k.link rest P.journey e (t.mails p)) in
       elim (cases_Bool (busy (P.journey u))) [ inl b ↦ join_sim same law n k pages t p rest a u h d e at b | inr b ↦ served_sim same law n v k pages t p i rest a u h d e at (grind arith) ]
   deliver_sim (copy f a h w) e =
-      let at = copy_is f a h w (P.journey a) (taken_flies same law p (copy f a h w) k.link rest P.journey e (t.mails p)) in
+      let at = copy_is f a h w (P.journey a) (taken_on_link same law p (copy f a h w) k.link rest P.journey e (t.mails p)) in
       elim (deferred_or (mark P a)) [ inl b ↦ load_drop_sim same law n v k pages t p i rest a f h w e at b | inr b ↦ load_sim same law n v k pages t p i rest a f h w e at b ]
   deliver_sim (grant f a h c w) e =
-      let at = grant_is f a h c w (P.journey a) (taken_flies same law p (grant f a h c w) k.link rest P.journey e (t.mails p)) in
+      let at = grant_is f a h c w (P.journey a) (taken_on_link same law p (grant f a h c w) k.link rest P.journey e (t.mails p)) in
       elim (cases_Bool (none_below n (has c))) [ inl b ↦ grant_free_sim same law n v k pages t p i rest a f h c w e at b | inr b ↦ grant_sim same law n v k pages t p i rest a f h c w e at b ]
   deliver_sim (invalidate c x) e =
-      let z = invalidate_is c x (P.journey c) (taken_flies same law p (invalidate c x) k.link rest P.journey e (t.mails p)) in
+      let z = invalidate_is c x (P.journey c) (taken_on_link same law p (invalidate c x) k.link rest P.journey e (t.mails p)) in
       elim (cases_Bool (loading (P.journey x))) [ inl b ↦ defer_sim same law n v k pages t p i rest c x z.0 z.1 e z.2 z.3 b | inr b ↦ drop_sim same law n v k pages t p i rest c x z.0 z.1 e z.2 z.3 b ]
   deliver_sim (acknowledge x c) e =
-      let z = acknowledge_is c x (P.journey c) (taken_flies same law p (acknowledge x c) k.link rest P.journey e (t.mails p)) in
+      let z = acknowledge_is c x (P.journey c) (taken_on_link same law p (acknowledge x c) k.link rest P.journey e (t.mails p)) in
       elim (cases_Bool (none_below n (upd (k.board c).seat.awaited x false))) [ inl b ↦ last_ack_sim same law n v k pages t p i rest c x z.0 z.1 e z.2 z.3 b | inr b ↦ ack_sim same law n v k pages t p i rest c x z.0 z.1 e z.2 z.3 b ]

@@ -3,9 +3,11 @@ use Rattle.std.proofs.Common.{◌≡◌, ℕ, ◌+◌, ◌-◌, ◌*◌, ◌<◌
 use Rattle.std.proofs.lemmas.Bool.{cases_eq, cases_Bool}
 use Rattle.wire.specs.Bags.{Bag, ◌&◌}
 use Rattle.memory.proofs.model.Board.{load, store, Entry, Mail}
-use Rattle.memory.proofs.model.Calls.{call_deliver, Ledger, stored, after, Good, said_of, said_by, posts_by, kit_by}
+use Rattle.memory.proofs.model.Calls.{call_deliver, said_of, said_by, posts_by, kit_by}
+use Rattle.memory.proofs.model.Ledgers.{Ledger, stored, after, Good}
 use Rattle.memory.proofs.model.Invariant.{Inv}
-use Rattle.memory.proofs.model.Kit.{absent, just, Stage, closed, asked, clears, Seat, Board, Post, Kit, Reply, open_on, to, stage_of, Told, becomes, arrives, requests, Open, op_load, op_store, op_by, op_of, Equality}
+use Rattle.memory.proofs.model.Kit.{absent, just, Stage, closed, asked, clears, Seat, Board, Post, Kit, Reply, open_on, to, becomes, arrives, requests, Open, op_load, op_store, op_by, op_of}
+use Rattle.memory.proofs.model.Told.{stage_of, Told, Equality}
 use Rattle.memory.proofs.model.Page.{Page, busy, far}
 use Rattle.memory.proofs.model.Steps.{Answer, nothing, read_at, written_at, Delivery, delivers}
 use Rattle.memory.proofs.model.Sums.{upd, sum_to}

@@ -2,7 +2,7 @@
 use Rattle.std.proofs.Common.{◌≡◌, ℕ, zero, suc, Bool, true, false, cond, ◌&&◌, eqb, List, [], ◌∷◌, sym, refl, ◌∙◌, arith}
 use Rattle.std.proofs.lemmas.Bool.Decides.{nat_tests}
 use Rattle.memory.proofs.model.Board.{load, store, is_load, Mail, request, copy, grant, invalidate, acknowledge}
-use Rattle.memory.proofs.model.Kit.{Equality}
+use Rattle.memory.proofs.model.Told.{Equality}
 use Rattle.memory.proofs.model.Sums.{bit}
 
 abbrev same_list : {X : Type 0} → (X → ℕ) → List X → List X → Bool

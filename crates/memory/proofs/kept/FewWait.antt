@@ -3,9 +3,10 @@ use Rattle.std.proofs.Common.{◌≡◌, ℕ, zero, suc, ◌+◌, ◌-◌, ◌*�
 use Rattle.std.proofs.lemmas.Bool.{cases_eq, cases_Bool}
 use Rattle.wire.specs.Bags.{total, size}
 use Rattle.memory.proofs.model.Board.{Mail}
-use Rattle.memory.proofs.model.Calls.{Ledger}
+use Rattle.memory.proofs.model.Ledgers.{Ledger}
 use Rattle.memory.proofs.model.Invariant.{Inv}
-use Rattle.memory.proofs.model.Kit.{Maybe, absent, just, Post, Kit, owner, slot, mark_mail, mail_of, is_it, Equality}
+use Rattle.memory.proofs.model.Kit.{Maybe, absent, just, Post, Kit}
+use Rattle.memory.proofs.model.Told.{owner, slot, mark_mail, mail_of, is_it, Equality}
 use Rattle.memory.proofs.model.Page.{Mark, Journey, home, asking, queued, copied, granted, clearing, Page, awaits, busy, rooted, mark_of, mark}
 use Rattle.memory.proofs.model.Sums.{bit, sum_to, count}
 use Rattle.memory.proofs.kept.KitKept.{Kept}

@@ -2,7 +2,8 @@
 use Rattle.std.proofs.Common.{◌≡◌, ℕ, ◌+◌, Bool, true, false, List, [], ap, arith}
 use Rattle.wire.specs.Bags.{Bag}
 use Rattle.memory.proofs.model.Board.{Entry, Mail}
-use Rattle.memory.proofs.model.Kit.{absent, closed, Post, Kit, vacant, stage_of, deferral_of, flies, Told, becomes, Equality}
+use Rattle.memory.proofs.model.Kit.{absent, closed, Post, Kit, vacant, becomes}
+use Rattle.memory.proofs.model.Told.{stage_of, deferral_of, on_link, Told, Equality}
 use Rattle.memory.proofs.model.Page.{Page, awaits, busy, mark_of, mark}
 use Rattle.memory.proofs.model.Sums.{upd, bit}
 use Rattle.memory.proofs.kept.DeliverySteps.{mails_after, Takes, here_is}
@@ -22,7 +23,7 @@ module _ {W : Type 0} (same : Mail W → Mail W → Bool) (law : Equality same) 
       → ((x : ℕ) → deferral_of (mark one_page x) one_page.root ≡ upd (λ x. deferral_of (mark P x) P.root) a absent x)
       → ((x : ℕ) → q.waits x ≡ upd P.waits a [] x)
       → Changes same one_page q a ent absent ms
-      → ((x : Mail W) → bit (flies same q.journey x) + bit (same x m) ≡ bit (flies same P.journey x) + listed same x posts)
+      → ((x : Mail W) → bit (on_link same q.journey x) + bit (same x m) ≡ bit (on_link same P.journey x) + listed same x posts)
       → Told same (becomes k a p (vacant (k.board a).seat) ent posts rest) (upd pages p q)
   finish_told a m o1 q ent posts ms e is entry1 stage1 marks1 deferral1 waits c net =
       let here = here_is t p a is in

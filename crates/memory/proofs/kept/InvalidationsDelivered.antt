@@ -3,7 +3,8 @@ use Rattle.std.proofs.Common.{◌≡◌, ℕ, ◌<◌, Bool, true, false, [], �
 use Rattle.wire.specs.Bags.{Bag}
 use Rattle.memory.proofs.model.Board.{store, Mail, grant, invalidate, acknowledge, drop_entry, got_grant}
 use Rattle.memory.proofs.model.Invariant.{Holders, Inv}
-use Rattle.memory.proofs.model.Kit.{absent, just, asked, clears, Post, Kit, none_below, invalidates, with_deferral, with_awaited, asked_load, slot, stage_of, Told, Equality}
+use Rattle.memory.proofs.model.Kit.{absent, just, asked, clears, Post, Kit, none_below, invalidates, with_deferral, with_awaited, asked_load}
+use Rattle.memory.proofs.model.Told.{slot, stage_of, Told, Equality}
 use Rattle.memory.proofs.model.Page.{Mark, unmarked, sent, deferred, acked, granted, clearing, Page, awaits, rooted, loading}
 use Rattle.memory.proofs.model.Sets.{has, Boards}
 use Rattle.memory.proofs.model.Steps.{goes, grant_came, dropped, grant_in, defers, drops, acks, nothing, moves}

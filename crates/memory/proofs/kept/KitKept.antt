@@ -2,9 +2,10 @@
 use Rattle.std.proofs.Common.{◌≡◌, ℕ, ◌-◌, ◌*◌, ◌≤◌, Bool, true, sym, refl, ap, ◌∙◌, inl, inr, arith, []}
 use Rattle.std.proofs.lemmas.Bool.{cases_eq}
 use Rattle.memory.proofs.model.Board.{Mail}
-use Rattle.memory.proofs.model.Calls.{Ledger, unchanged}
+use Rattle.memory.proofs.model.Ledgers.{Ledger, unchanged}
 use Rattle.memory.proofs.model.Invariant.{Inv}
-use Rattle.memory.proofs.model.Kit.{Maybe, absent, closed, Board, Kit, Told, Open, op_by, op_of}
+use Rattle.memory.proofs.model.Kit.{Maybe, absent, closed, Board, Kit, Open, op_by, op_of}
+use Rattle.memory.proofs.model.Told.{Told}
 use Rattle.memory.proofs.model.Page.{Page, busy, far}
 use Rattle.memory.proofs.model.Sums.{upd, sum_to}
 use Rattle.memory.proofs.model.Weights.{weight}

@@ -3,7 +3,8 @@ use Rattle.std.proofs.Common.{◌≡◌, ℕ, Bool, ◌∷◌, sym, refl, ap, �
 use Rattle.wire.specs.Bags.{Bag}
 use Rattle.memory.proofs.model.Board.{load, Mail, copy, acknowledge, got_copy, drop_entry, serve_entries, serve_mails}
 use Rattle.memory.proofs.model.Invariant.{Holders, Inv}
-use Rattle.memory.proofs.model.Kit.{absent, just, asked, Post, Kit, replies, vacant, finish_load, stage_of, deferral_of, Told, Equality}
+use Rattle.memory.proofs.model.Kit.{absent, just, asked, Post, Kit, replies, vacant, finish_load}
+use Rattle.memory.proofs.model.Told.{stage_of, deferral_of, Told, Equality}
 use Rattle.memory.proofs.model.Page.{Mark, unmarked, sent, deferred, acked, home, copied, clearing, Page, busy, far, rooted, mark}
 use Rattle.memory.proofs.model.Steps.{copy_came, copy_dropped, Loaded, copy_in, copy_then_drop, read_at, loads}
 use Rattle.memory.proofs.model.Sums.{upd}

@@ -3,7 +3,8 @@ use Rattle.std.proofs.Common.{◌≡◌, ℕ, zero, suc, ◌+◌, Bool, true, fa
 use Rattle.std.proofs.lemmas.Bool.{cases_eq, cases_Bool}
 use Rattle.wire.specs.Bags.{Bag, ◌&◌}
 use Rattle.memory.proofs.model.Board.{Mail, invalidate}
-use Rattle.memory.proofs.model.Kit.{Equality, Maybe, absent, just, Post, owner, slot, mark_mail, mail_of, is_it, flies, times, post_all, invalidates, requests}
+use Rattle.memory.proofs.model.Kit.{Maybe, absent, just, Post, post_all, invalidates, requests}
+use Rattle.memory.proofs.model.Told.{Equality, owner, slot, mark_mail, mail_of, is_it, on_link, times}
 use Rattle.memory.proofs.model.Page.{Journey, home, asking, queued, copied, granted, clearing, marks}
 use Rattle.memory.proofs.model.Sets.{has, Boards}
 use Rattle.memory.proofs.model.Sums.{bit}
@@ -47,7 +48,7 @@ module _ {W : Type 0} (same : Mail W → Mail W → Bool) (law : Equality same) 
   ]
 
   -- one place changes: so do the messages
-  pub cell_change : (j l : ℕ → Journey W) (o s : ℕ) → ((a y : ℕ) → (a ≡ o → y ≡ s → ⊥) → mail_of a (l a) y ≡ mail_of a (j a) y) → (x : Mail W) → bit (flies same l x) + bit (is_it same x (mail_of o (j o) s)) ≡ bit (flies same j x) + bit (is_it same x (mail_of o (l o) s))
+  pub cell_change : (j l : ℕ → Journey W) (o s : ℕ) → ((a y : ℕ) → (a ≡ o → y ≡ s → ⊥) → mail_of a (l a) y ≡ mail_of a (j a) y) → (x : Mail W) → bit (on_link same l x) + bit (is_it same x (mail_of o (j o) s)) ≡ bit (on_link same j x) + bit (is_it same x (mail_of o (l o) s))
   cell_change j l o s rest x = elim (cases_eq (owner x) o) [
     | inl p ↦ elim (cases_eq (slot x) s) [
       | inl q ↦ rw (p, q) (omega arith)
@@ -56,7 +57,7 @@ module _ {W : Type 0} (same : Mail W → Mail W → Bool) (law : Equality same) 
     | inr p ↦ away (λ k _. p k)
   ]
     where
-      away : (owner x ≡ o → slot x ≡ s → ⊥) → bit (flies same l x) + bit (is_it same x (mail_of o (j o) s)) ≡ bit (flies same j x) + bit (is_it same x (mail_of o (l o) s))
+      away : (owner x ≡ o → slot x ≡ s → ⊥) → bit (on_link same l x) + bit (is_it same x (mail_of o (j o) s)) ≡ bit (on_link same j x) + bit (is_it same x (mail_of o (l o) s))
       away ne =
           let a = elsewhere x o s (mail_of o (j o) s) (keyed o s (j o)) ne in
           let b = elsewhere x o s (mail_of o (l o) s) (keyed o s (l o)) ne in
@@ -69,8 +70,8 @@ module _ {W : Type 0} (same : Mail W → Mail W → Bool) (law : Equality same) 
   times_post p q x (m ∷ ms) l = grind (arith, times_post p q x ms (record { page = p; mail = m } & l), cases_Bool (eqb q p))
 
   -- a message taken is in a journey
-  pub taken_flies : (p : ℕ) (m : Mail W) (l rest : Bag (Post W)) (j : ℕ → Journey W) → l ≡ record { page = p; mail = m } & rest → ((x : Mail W) → times same p x l ≡ bit (flies same j x)) → mail_of (owner m) (j (owner m)) (slot m) ≡ just m
-  taken_flies p m l rest j e h = found (mail_of (owner m) (j (owner m)) (slot m)) refl
+  pub taken_on_link : (p : ℕ) (m : Mail W) (l rest : Bag (Post W)) (j : ℕ → Journey W) → l ≡ record { page = p; mail = m } & rest → ((x : Mail W) → times same p x l ≡ bit (on_link same j x)) → mail_of (owner m) (j (owner m)) (slot m) ≡ just m
+  taken_on_link p m l rest j e h = found (mail_of (owner m) (j (owner m)) (slot m)) refl
     where
       found : (c : Maybe (Mail W)) → mail_of (owner m) (j (owner m)) (slot m) ≡ c → c ≡ just m
       found absent is = absurd (let t = h m in let u = ap (times same p m) e in let s = law.self m in let z = ap (is_it same m) is in grind (arith, facts))

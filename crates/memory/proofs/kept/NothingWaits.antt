@@ -2,8 +2,9 @@
 use Rattle.std.proofs.Common.{◌≡◌, ℕ, Bool, true, false, sym, refl, ap, ◌∙◌, inl, inr, arith}
 use Rattle.wire.specs.Bags.{empty as no_mail}
 use Rattle.memory.proofs.model.Board.{Mail, request, copy, grant, invalidate, acknowledge}
-use Rattle.memory.proofs.model.Calls.{Ledger}
-use Rattle.memory.proofs.model.Kit.{absent, Kit, flies, times, Equality}
+use Rattle.memory.proofs.model.Ledgers.{Ledger}
+use Rattle.memory.proofs.model.Kit.{absent, Kit}
+use Rattle.memory.proofs.model.Told.{on_link, times, Equality}
 use Rattle.memory.proofs.model.Page.{Mark, unmarked, sent, deferred, acked, Journey, home, asking, queued, copied, granted, clearing, busy, silent, quiet_mark}
 use Rattle.memory.proofs.model.Sums.{bit}
 use Rattle.memory.proofs.kept.Below.{all_below_all}
@@ -14,7 +15,7 @@ use Rattle.memory.proofs.kept.Stages.{stage_cases}
 
 module _ {W : Type 0} (same : Mail W → Mail W → Bool) (law : Equality same) where
   -- no message of a page is on the link: so none of its journeys has one there
-  silent_all : (n : ℕ) (j : ℕ → Journey W) → ((x : Mail W) → flies same j x ≡ false) → (y : ℕ) (t : Journey W) → j y ≡ t → silent n t ≡ true
+  silent_all : (n : ℕ) (j : ℕ → Journey W) → ((x : Mail W) → on_link same j x ≡ false) → (y : ℕ) (t : Journey W) → j y ≡ t → silent n t ≡ true
   silent_all n j h y home e = refl
   silent_all n j h y (asking k u g) e = absurd (let a = h (request k u y g) in let b = law.self (request k u y g) in grind (arith, facts))
   silent_all n j h y (queued k u g) e = refl
@@ -36,8 +37,8 @@ module _ {W : Type 0} {same : Mail W → Mail W → Bool} {n : ℕ} {l : Ledger 
         let p = (k.board x).seat.page in
         let inv = i.each p in
         let b : busy ((i.pages p).journey x) ≡ true = open_journey i x ne in
-        let none_fly : (m : Mail W) → flies same (i.pages p).journey m ≡ false = λ m. no_bit (flies same (i.pages p).journey m) (sym (i.told.mails p m) ∙ ap (times same p m) e) in
-        stuck n (l.memory p) (i.pages p) inv (λ y _. silent_all same law n (i.pages p).journey none_fly y ((i.pages p).journey y) refl) x (inv.core.ways.askers x b).in_range b)
+        let none_on_link : (m : Mail W) → on_link same (i.pages p).journey m ≡ false = λ m. no_bit (on_link same (i.pages p).journey m) (sym (i.told.mails p m) ∙ ap (times same p m) e) in
+        stuck n (l.memory p) (i.pages p) inv (λ y _. silent_all same law n (i.pages p).journey none_on_link y ((i.pages p).journey y) refl) x (inv.core.ways.askers x b).in_range b)
   ]
     where
       no_bit : (c : Bool) → bit c ≡ 0 → c ≡ false

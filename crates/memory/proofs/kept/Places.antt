@@ -5,7 +5,8 @@ use Rattle.std.proofs.lemmas.Bool.{cases_eq, cases_Bool}
 use mathlib.Core.HLevel.{is_prop→PathP}
 use native.Mathlib.Bridge.{le_prop}
 use Rattle.wire.specs.Bags.{Bag, empty, ◌&◌, either_order, total, size}
-use Rattle.memory.proofs.model.Kit.{is_it, Maybe, absent, just}
+use Rattle.memory.proofs.model.Kit.{Maybe, absent, just}
+use Rattle.memory.proofs.model.Told.{is_it}
 use Rattle.memory.proofs.model.Sums.{upd, sum_to, bit}
 use Rattle.memory.proofs.kept.Sums.{upd_same, upd_other, sum_one}
 

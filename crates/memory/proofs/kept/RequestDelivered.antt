@@ -3,7 +3,8 @@ use Rattle.std.proofs.Common.{◌≡◌, ℕ, Bool, true, [], ◌∷◌, refl, a
 use Rattle.wire.specs.Bags.{Bag}
 use Rattle.memory.proofs.model.Board.{Kind, Req, Entry, Mail, request, serve_entry, serve_mail}
 use Rattle.memory.proofs.model.Invariant.{Inv}
-use Rattle.memory.proofs.model.Kit.{absent, just, Stage, closed, asked, clears, Post, Kit, replies, arrive, mail_of, is_it, stage_of, Told, Equality, Seat, open_on, with_waiting}
+use Rattle.memory.proofs.model.Kit.{absent, just, Stage, closed, asked, clears, Post, Kit, replies, arrive, Seat, open_on, with_waiting}
+use Rattle.memory.proofs.model.Told.{mail_of, is_it, stage_of, Told, Equality}
 use Rattle.memory.proofs.model.Page.{home, asking, queued, Page, busy}
 use Rattle.memory.proofs.model.Steps.{served, nothing, moves, joined, joins}
 use Rattle.memory.proofs.model.Sums.{upd, bit}

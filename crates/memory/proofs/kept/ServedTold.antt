@@ -4,7 +4,8 @@ use Rattle.std.proofs.lemmas.Bool.{cases_eq}
 use Rattle.std.specs.List.{AllByRecursion as All}
 use Rattle.memory.proofs.model.Board.{Kind, load, store, Req, Entry, Mail, request, copy, grant, serve_entry, serve_mail, serve_entries, serve_mails}
 use Rattle.memory.proofs.model.Invariant.{Core}
-use Rattle.memory.proofs.model.Kit.{Maybe, absent, just, mail_of, is_it, stage_of, deferral_of, flies, requests, Equality}
+use Rattle.memory.proofs.model.Kit.{Maybe, absent, just, requests}
+use Rattle.memory.proofs.model.Told.{mail_of, is_it, stage_of, deferral_of, on_link, Equality}
 use Rattle.memory.proofs.model.Page.{Journey, home, asking, queued, copied, granted, Page, busy, far, queued_at, mark_of, mark, At, occ}
 use Rattle.memory.proofs.model.Sets.{put}
 use Rattle.memory.proofs.model.Steps.{passed_on, copied_to, granted_to, Serves, passes, copies_it, grants, Serving, empty, one}
@@ -24,7 +25,7 @@ pub record Changes {W : Type 0} (same : Mail W → Mail W → Bool) (p q : Page 
   pub marks : (x y : ℕ) → mark_of (q.journey x) y ≡ mark_of (p.journey x) y
   pub deferral : (x : ℕ) → deferral_of (mark q x) q.root ≡ deferral_of (mark p x) p.root
   pub hops : (x : ℕ) → far (q.journey x) ≡ far (p.journey x) + requests x ms
-  pub net : (x : Mail W) → bit (flies same q.journey x) + bit (is_it same x old) ≡ bit (flies same p.journey x) + listed same x ms
+  pub net : (x : Mail W) → bit (on_link same q.journey x) + bit (is_it same x old) ≡ bit (on_link same p.journey x) + listed same x ms
 
 pub changes_calm : {W : Type 0} {same : Mail W → Mail W → Bool} {p q : Page W} {u : ℕ} {e : Entry W} {old : Maybe (Mail W)} {ms : List (Mail W)} → Changes same p q u e old ms → (x : ℕ) → busy (q.journey x) ≡ false → requests x ms ≡ 0
 changes_calm c x off = let z = c.hops x in grind arith
@@ -46,7 +47,7 @@ module _ {W : Type 0} (same : Mail W → Mail W → Bool) (law : Equality same) 
   old = mail_of a (p.journey a) a
 
   -- the messages, where a's journey goes on with another
-  one_net : (t : Journey W) (m : Mail W) → (d : Mail W) → d ≡ m → mail_of a t a ≡ just m → ((y : ℕ) → (y ≡ a → ⊥) → mail_of a t y ≡ absent) → (x : Mail W) → bit (flies same (upd p.journey a t) x) + bit (is_it same x old) ≡ bit (flies same p.journey x) + listed same x (d ∷ [])
+  one_net : (t : Journey W) (m : Mail W) → (d : Mail W) → d ≡ m → mail_of a t a ≡ just m → ((y : ℕ) → (y ≡ a → ⊥) → mail_of a t y ≡ absent) → (x : Mail W) → bit (on_link same (upd p.journey a t) x) + bit (is_it same x old) ≡ bit (on_link same p.journey x) + listed same x (d ∷ [])
   one_net t m d same_mail is none_else x =
       omega (
         arith,

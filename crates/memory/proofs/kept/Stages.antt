@@ -1,6 +1,7 @@
 -- A board's stage beside a page's journey: the board has an access open on the page exactly where its stage there is not closed.
 use Rattle.std.proofs.Common.{◌≡◌, ℕ, true, ◌⊎◌, refl, inl, inr, arith}
-use Rattle.memory.proofs.model.Kit.{just, Stage, closed, asked, clears, Seat, Open, open_on, stage_of, op_by}
+use Rattle.memory.proofs.model.Kit.{just, Stage, closed, asked, clears, Seat, Open, open_on, op_by}
+use Rattle.memory.proofs.model.Told.{stage_of}
 use Rattle.memory.proofs.model.Page.{Journey, home, busy}
 use Rattle.memory.proofs.kept.Sets.{facts}
 

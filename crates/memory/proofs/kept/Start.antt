@@ -2,7 +2,8 @@
 use Rattle.std.proofs.Common.{◌≡◌, ℕ, ◌<◌, Bool, false, refl, arith}
 use Rattle.std.proofs.lemmas.Bool.{both_ways}
 use Rattle.memory.proofs.model.Board.{Mail}
-use Rattle.memory.proofs.model.Calls.{first_ledger, first_kit}
+use Rattle.memory.proofs.model.Calls.{first_kit}
+use Rattle.memory.proofs.model.Ledgers.{first_ledger}
 use Rattle.memory.proofs.model.Invariant.{Inv}
 use Rattle.memory.proofs.model.Page.{start}
 use Rattle.memory.proofs.kept.HintTree.{first_inv}

@@ -4,7 +4,8 @@ use Rattle.std.proofs.lemmas.Bool.{cases_eq, cases_Bool}
 use Rattle.wire.specs.Bags.{Bag}
 use Rattle.memory.proofs.model.Board.{store, Mail, grant, acknowledge, store_entry, got_grant, serve_entries, serve_mails}
 use Rattle.memory.proofs.model.Invariant.{Holders, Inv}
-use Rattle.memory.proofs.model.Kit.{absent, just, asked, clears, Post, Kit, refused, replies, none_below, invalidates, vacant, with_awaited, finish, mail_of, stage_of, deferral_of, Told, Equality}
+use Rattle.memory.proofs.model.Kit.{absent, just, asked, clears, Post, Kit, refused, replies, none_below, invalidates, vacant, with_awaited, finish}
+use Rattle.memory.proofs.model.Told.{mail_of, stage_of, deferral_of, Told, Equality}
 use Rattle.memory.proofs.model.Page.{Mark, unmarked, acked, home, granted, clearing, Page, awaits, busy, far, rooted, mark}
 use Rattle.memory.proofs.model.Sets.{has, Boards, nobody}
 use Rattle.memory.proofs.model.Steps.{stored_at, Stores, grant_free, last_ack, nothing, written_at, stores}

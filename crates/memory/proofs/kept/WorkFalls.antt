@@ -8,7 +8,7 @@ use Rattle.memory.proofs.model.Page.{Mark, unmarked, deferred, acked, home, aski
 use Rattle.memory.proofs.model.Sets.{has, put, Boards}
 use Rattle.memory.proofs.model.Steps.{copy_came, copy_dropped, stored_at, Serves, passes, copies_it, grants, Serving, empty, one, Call, ask_load, ask_store, clear, Move, joins, served, grant_in, defers, drops, acks, Loaded, copy_in, copy_then_drop, Stores, grant_free, last_ack, Answer, Delivery, moves, loads, stores}
 use Rattle.memory.proofs.model.Sums.{upd, bit, sum_to, count}
-use Rattle.memory.proofs.model.Weights.{heft, weight, NoneHeavier, Falls, Opens}
+use Rattle.memory.proofs.model.Weights.{mark_weight, weight, NoneHeavier, Falls, Opens}
 use Rattle.memory.proofs.kept.CopySets.{copies_in}
 use Rattle.memory.proofs.kept.PageKept.{loaded_core, ready_core, stores_ready}
 use Rattle.memory.proofs.kept.Requests.{asker_in, owner}
@@ -19,12 +19,12 @@ use Rattle.memory.proofs.kept.Sums.{count_room_one, upd_same, upd_other, sum_one
 use Rattle.memory.proofs.kept.Waiting.{popped, others_told}
 
 -- one mark changed
-heft_one : (n x : ℕ) (m : ℕ → Mark) (t : Mark) → x < n → sum_to n (λ y. heft (upd m x t y)) + heft (m x) ≡ sum_to n (λ y. heft (m y)) + heft t
-heft_one n x m t l = omega (arith, sum_one n x (λ y. heft (m y)) (λ y. heft (upd m x t y)) l (λ y ne. ap heft (upd_other m x t y ne)), ap heft (upd_same m x t))
+mark_weight_one : (n x : ℕ) (m : ℕ → Mark) (t : Mark) → x < n → sum_to n (λ y. mark_weight (upd m x t y)) + mark_weight (m x) ≡ sum_to n (λ y. mark_weight (m y)) + mark_weight t
+mark_weight_one n x m t l = omega (arith, sum_one n x (λ y. mark_weight (m y)) (λ y. mark_weight (upd m x t y)) l (λ y ne. ap mark_weight (upd_other m x t y ne)), ap mark_weight (upd_same m x t))
 
-heft_marks : (n : ℕ) (c : Boards) → sum_to n (λ y. heft (marks c y)) ≡ 2 * count n (has c)
-heft_marks zero c = refl
-heft_marks (suc n) c = grind (arith, heft_marks n c, cases_Bool (has c n))
+mark_weight_marks : (n : ℕ) (c : Boards) → sum_to n (λ y. mark_weight (marks c y)) ≡ 2 * count n (has c)
+mark_weight_marks zero c = refl
+mark_weight_marks (suc n) c = grind (arith, mark_weight_marks n c, cases_Bool (has c n))
 
 module _ {W : Type 0} where
   -- a request of a, served: no journey gets heavier, and where it was on its way a's gets lighter
@@ -69,9 +69,9 @@ module _ {W : Type 0} where
     marked_in c x h m e is = let r = o.only c (ap rooted e) in grind (arith, o.marked x)
 
     -- one mark of a clearing board gets lighter
-    mark_falls : (c x h : ℕ) (m : ℕ → Mark) (t : Mark) (q : Page W) → p.journey c ≡ clearing h m → awaits (m x) ≡ true → heft t < heft (m x) → ((y : ℕ) → q.journey y ≡ upd p.journey c (clearing h (upd m x t)) y) → Falls n p q
+    mark_falls : (c x h : ℕ) (m : ℕ → Mark) (t : Mark) (q : Page W) → p.journey c ≡ clearing h m → awaits (m x) ≡ true → mark_weight t < mark_weight (m x) → ((y : ℕ) → q.journey y ≡ upd p.journey c (clearing h (upd m x t)) y) → Falls n p q
     mark_falls c x h m t q e is less q_is =
-        let w = heft_one n x m t (marked_in c x h m e is) in
+        let w = mark_weight_one n x m t (marked_in c x h m e is) in
         record { never = λ y. grind (arith, facts, q_is y); who = c; who_in = in_range c (ap busy e); lighter = grind (arith, facts, q_is c) }
 
     move_falls : {q : Page W} → Move p q → Falls n p q
@@ -86,7 +86,7 @@ module _ {W : Type 0} where
           who_in = in_range a (ap busy e);
           lighter = serves_less i.core u a p.waits is rest i.core.told k h e this;
         }
-    move_falls (grant_in a s h y c w e is) = let k = heft_marks n c in record { never = λ x. grind (arith, facts); who = a; who_in = in_range a (ap busy e); lighter = grind (arith, facts) }
+    move_falls (grant_in a s h y c w e is) = let k = mark_weight_marks n c in record { never = λ x. grind (arith, facts); who = a; who_in = in_range a (ap busy e); lighter = grind (arith, facts) }
     move_falls (defers c x h m e is k) = mark_falls c x h m deferred _ e (ap awaits is) (grind (arith, facts)) (λ y. refl)
     move_falls (drops c x h m e is k) = mark_falls c x h m acked _ e (ap awaits is) (grind (arith, facts)) (λ y. refl)
     move_falls (acks c x y h m e is k ne) = mark_falls c x h m unmarked _ e (ap awaits is) (grind (arith, facts)) (λ y. refl)
@@ -105,7 +105,7 @@ module _ {W : Type 0} where
         (record { never = λ x. grind (arith, facts); who = a; who_in = in_range a (ap busy e); lighter = grind (arith, facts) })
         (serving_light a (loaded_core i a h w (copy_in s e ne)) (grind (arith, facts)) more)
     loaded_falls a h w (copy_then_drop s c g m e k is) more =
-        let same = heft_one n a m acked (in_range a (ap busy e)) in
+        let same = mark_weight_one n a m acked (in_range a (ap busy e)) in
         falls_then {q = copy_dropped p a s w c g m}
         (record { never = λ x. grind (arith, facts); who = a; who_in = in_range a (ap busy e); lighter = grind (arith, facts) })
         (serving_light a (loaded_core i a h w (copy_then_drop s c g m e k is)) (grind (arith, facts)) more)
@@ -116,7 +116,7 @@ module _ {W : Type 0} where
         (record { never = λ x. grind (arith, facts); who = a; who_in = in_range a (ap busy e); lighter = grind (arith, facts) })
         (serving_light a (ready_core i a h w f (stores_ready i a h w (grant_free s c e is))) (grind (arith, facts)) more)
     stored_falls a h w f (last_ack x m e is others same) more =
-        let k = heft_one n x m unmarked (marked_in a x h m e (ap awaits is)) in
+        let k = mark_weight_one n x m unmarked (marked_in a x h m e (ap awaits is)) in
         falls_then {q = stored_at p a (f w)}
         (record { never = λ x. grind (arith, facts); who = a; who_in = in_range a (ap busy e); lighter = grind (arith, facts) })
         (serving_light a (ready_core i a h w f (stores_ready i a h w (last_ack x m e is others same))) (grind (arith, facts)) more)
@@ -139,5 +139,5 @@ module _ {W : Type 0} where
         let in_y : y < n = (copies_in i.core a r e y c).0 in
         let two : 2 ≤ n = grind (arith, facts) in
         let room = count_room_one n a (has (p.entry a).copies) l lacks in
-        let k = heft_marks n (p.entry a).copies in
+        let k = mark_weight_marks n (p.entry a).copies in
         record { who = a; now = grind (arith, facts); others = λ x. grind (arith, facts) }

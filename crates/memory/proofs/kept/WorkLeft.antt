@@ -1,19 +1,19 @@
 -- The work that is left: none is where nothing is open, and each open access has no more than its bound.
 use Rattle.std.proofs.Common.{◌≡◌, ℕ, ◌-◌, ◌*◌, ◌<◌, ◌≤◌, Bool, true, sym, refl, ap, ◌∙◌, inl, inr, arith}
 use Rattle.memory.proofs.model.Board.{Mail}
-use Rattle.memory.proofs.model.Calls.{Ledger, is_open, opens_count}
+use Rattle.memory.proofs.model.Ledgers.{Ledger, is_open, opens_count}
 use Rattle.memory.proofs.model.Invariant.{Inv}
 use Rattle.memory.proofs.model.Kit.{absent, Stage, closed, Kit, op_by}
 use Rattle.memory.proofs.model.Page.{Mark, Journey, home, asking, queued, copied, granted, clearing, Page, awaits, busy, far, rooted, is_clearing, mark_of, mark}
 use Rattle.memory.proofs.model.Sums.{bit, sum_to}
-use Rattle.memory.proofs.model.Weights.{weight, heft}
+use Rattle.memory.proofs.model.Weights.{weight, mark_weight}
 use Rattle.memory.proofs.kept.KitKept.{Kept, left_of, shut_absent, open_journey}
 use Rattle.memory.proofs.kept.Stages.{stage_cases, open_here, closed_home}
 use Rattle.memory.proofs.kept.Sums.{sum_part, sum_times, sum_le}
 
 -- an open access weighs something
-clearing_heavy : (n y : ℕ) (m : ℕ → Mark) → y < n → awaits (m y) ≡ true → 0 < sum_to n (λ x. heft (m x))
-clearing_heavy n y m l e = let h = sum_part n y (λ x. heft (m x)) l in let w : 0 < heft (m y) = grind arith in omega arith
+clearing_heavy : (n y : ℕ) (m : ℕ → Mark) → y < n → awaits (m y) ≡ true → 0 < sum_to n (λ x. mark_weight (m x))
+clearing_heavy n y m l e = let h = sum_part n y (λ x. mark_weight (m x)) l in let w : 0 < mark_weight (m y) = grind arith in omega arith
 
 module _ {W : Type 0} (n : ℕ) (v : W) (p : Page W) (i : Inv n v p) where
   busy_heavy : (x : ℕ) (t : Journey W) → p.journey x ≡ t → busy t ≡ true → 0 < weight n t

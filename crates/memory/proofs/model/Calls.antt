@@ -1,12 +1,11 @@
--- Calls on a kit: what each does, what it says, what the ledger is after it, and whether its answer is right by the ledger before.
-use Rattle.std.specs.Prelude.{◌≡◌, ℕ, ◌+◌, ◌-◌, ◌<◌, ◌≤◌, Bool, true, false, cond, ◌⊎◌, List, [], ◌∷◌, ◌==◌, ◌≢◌}
+-- Calls on a kit: what each does, and what it says.
+use Rattle.std.specs.Prelude.{◌≡◌, ℕ, ◌<◌, true, false, cond, ◌⊎◌, List, [], ◌∷◌, ◌==◌, ◌≢◌}
 use Rattle.wire.specs.Bags.{Bag, empty, ◌&◌}
 use Rattle.memory.proofs.model.Board.{none, write, load, store, Mail, request, store_entry}
-use Rattle.memory.proofs.model.Kit.{Maybe, absent, just, closed, asked, clears, Post, Kit, Reply, refused, replies, none_below, invalidates, to, becomes, arrives, opened_seat, requests, Open, op_load, op_store}
+use Rattle.memory.proofs.model.Kit.{Maybe, absent, just, closed, asked, clears, Post, Kit, Reply, refused, replies, none_below, invalidates, to, becomes, arrives, opened_seat}
 use Rattle.memory.proofs.model.Page.{is_none}
 use Rattle.memory.proofs.model.Sets.{has, nobody}
 use Rattle.memory.proofs.model.Steps.{Answer, nothing, read_at, written_at}
-use Rattle.memory.proofs.model.Sums.{upd, sum_to, bit}
 
 pub data Order (W : Type 0) : Type 0 where
   call_load : (board page : ℕ) → Order W
@@ -20,68 +19,7 @@ pub data Said (W : Type 0) : Type 0 where
   answered : Maybe W → Said W
   finished : (board : ℕ) → Maybe W → (hops : ℕ) → Said W
 
--- what a history says: the memory, the open accesses and how often their requests were passed on
-pub record Ledger (W : Type 0) : Type 0 where
-  pub memory : ℕ → W
-  pub opens : ℕ → Maybe (Open W)
-  pub passed : ℕ → ℕ
-
 module _ {W : Type 0} where
-  abbrev pub stored : Maybe (Open W) → (ℕ → W) → ℕ → W
-  stored absent mem = mem
-  stored (just (op_load p)) mem = mem
-  stored (just (op_store p f)) mem = upd mem p (f (mem p))
-
-  abbrev pub more_passed : Ledger W → List (Mail W) → ℕ → ℕ
-  more_passed l ms x = l.passed x + requests x ms
-
-  abbrev pub opening : Ledger W → ℕ → Open W → List (Mail W) → Ledger W
-  opening l b o ms = record { memory = l.memory; opens = upd l.opens b (just o); passed = upd (more_passed l ms) b (requests b ms - 1) }
-
-  abbrev pub unchanged : Ledger W → List (Mail W) → Ledger W
-  unchanged l ms = record { memory = l.memory; opens = l.opens; passed = more_passed l ms }
-
-  abbrev pub after : Ledger W → Order W → Said W → List (Mail W) → Ledger W
-  after l (call_load b p) opened ms = opening l b (op_load p) ms
-  after l (call_load b p) quiet ms = unchanged l ms
-  after l (call_load b p) moved ms = unchanged l ms
-  after l (call_load b p) (answered w) ms = unchanged l ms
-  after l (call_load b p) (finished a w h) ms = unchanged l ms
-  after l (call_store b p f) opened ms = opening l b (op_store p f) ms
-  after l (call_store b p f) quiet ms = unchanged l ms
-  after l (call_store b p f) moved ms = unchanged l ms
-  after l (call_store b p f) (answered w) ms = record { memory = upd l.memory p (f (l.memory p)); opens = l.opens; passed = more_passed l ms }
-  after l (call_store b p f) (finished a w h) ms = unchanged l ms
-  after l call_deliver (finished a w h) ms = record { memory = stored (l.opens a) l.memory; opens = upd l.opens a absent; passed = more_passed l ms }
-  after l call_deliver quiet ms = unchanged l ms
-  after l call_deliver moved ms = unchanged l ms
-  after l call_deliver opened ms = unchanged l ms
-  after l call_deliver (answered w) ms = unchanged l ms
-
-  -- an event is right by the history before it
-  abbrev pub RightEnd : ℕ → Ledger W → ℕ → Maybe W → ℕ → List (Mail W) → Type 0
-  RightEnd n l a (just w) h ms = (p : ℕ) × (l.opens a ≡ just (op_load p)) × (w ≡ l.memory p) × (h ≡ l.passed a + requests a ms) × (h ≤ n - 2)
-  RightEnd n l a absent h ms = (p : ℕ) × (f : W → W) × (l.opens a ≡ just (op_store p f)) × (h ≡ l.passed a + requests a ms) × (h ≤ n - 2)
-
-  abbrev pub Good : ℕ → Ledger W → Order W → Said W → List (Mail W) → Type 0
-  Good n l (call_load b p) (answered (just w)) ms = w ≡ l.memory p
-  Good n l (call_load b p) (answered absent) ms = ⊥
-  Good n l (call_load b p) opened ms = Unit {0}
-  Good n l (call_load b p) quiet ms = ⊥
-  Good n l (call_load b p) moved ms = ⊥
-  Good n l (call_load b p) (finished a w h) ms = ⊥
-  Good n l (call_store b p f) (answered absent) ms = Unit {0}
-  Good n l (call_store b p f) (answered (just w)) ms = ⊥
-  Good n l (call_store b p f) opened ms = Unit {0}
-  Good n l (call_store b p f) quiet ms = ⊥
-  Good n l (call_store b p f) moved ms = ⊥
-  Good n l (call_store b p f) (finished a w h) ms = ⊥
-  Good n l call_deliver (finished a w h) ms = RightEnd n l a w h ms
-  Good n l call_deliver quiet ms = (x : ℕ) → l.opens x ≡ absent
-  Good n l call_deliver moved ms = Unit {0}
-  Good n l call_deliver opened ms = ⊥
-  Good n l call_deliver (answered w) ms = ⊥
-
   -- how a delivery is answered
   abbrev pub said_of : Answer W → Said W
   said_of nothing = moved
@@ -110,9 +48,6 @@ module _ {W : Type 0} where
     delivers_it : (p : ℕ) (m : Mail W) (rest : Bag (Post W)) (r : Reply W) → k.link ≡ record { page = p; mail = m } & rest → arrives n k p m ≡ r → Does n k call_deliver (said_by r) (posts_by r) (kit_by k (to m) p rest r)
     delivers_none : k.link ≡ empty → Does n k call_deliver quiet [] k
 
-  abbrev pub first_ledger : (ℕ → W) → Ledger W
-  first_ledger v = record { memory = v; opens = λ _. absent; passed = λ _. 0 }
-
   abbrev pub first_kit : W → (ℕ → W) → Kit W
   first_kit idle v = record {
     board = λ x. record {
@@ -121,10 +56,3 @@ module _ {W : Type 0} where
     };
     link = empty;
   }
-
-  abbrev pub is_open : Maybe (Open W) → Bool
-  is_open absent = false
-  is_open (just o) = true
-
-  abbrev pub opens_count : ℕ → Ledger W → ℕ
-  opens_count n l = sum_to n (λ x. bit (is_open (l.opens x)))

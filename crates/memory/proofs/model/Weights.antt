@@ -5,11 +5,11 @@ use Rattle.memory.proofs.model.Page.{Mark, unmarked, sent, deferred, acked, Jour
 use Rattle.memory.proofs.model.Sets.{has}
 use Rattle.memory.proofs.model.Sums.{sum_to, count}
 
-abbrev pub heft : Mark → ℕ
-heft unmarked = 0
-heft sent = 2
-heft deferred = 1
-heft acked = 1
+abbrev pub mark_weight : Mark → ℕ
+mark_weight unmarked = 0
+mark_weight sent = 2
+mark_weight deferred = 1
+mark_weight acked = 1
 
 module _ {W : Type 0} where
   abbrev pub weight : ℕ → Journey W → ℕ
@@ -18,7 +18,7 @@ module _ {W : Type 0} where
   weight n (queued k u h) = cond (is_load k) (n - h) (3 * n - 4 - h) - 1
   weight n (copied s h w) = 1
   weight n (granted s h c w) = 1 + 2 * count n (has c)
-  weight n (clearing h m) = sum_to n (λ x. heft (m x))
+  weight n (clearing h m) = sum_to n (λ x. mark_weight (m x))
 
   -- no journey gets heavier
   abbrev pub NoneHeavier : ℕ → Page W → Page W → Type 0
