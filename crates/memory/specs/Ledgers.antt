@@ -1,5 +1,6 @@
 -- The ledger: what anyone can work out from a history alone, without looking into the kit.
 use Rattle.std.specs.Prelude.{ℕ, zero, suc, ◌+◌, ◌-◌, Bool, true, false, cond, ◌&&◌, List, [], ◌∷◌, length, Some, None, Ok, Err, Option, Result, ◌==◌}
+use Rattle.memory.specs.Functions.{changed}
 use Rattle.wire.specs.declared.fault.Fault.{Fault}
 use Rattle.wire.specs.declared.message.Message.{Message}
 use Rattle.wire.specs.declared.message.Kind.{Kind}
@@ -9,7 +10,7 @@ use Rattle.memory.specs.declared.call.Call.TheVariants.{Load, Store, Deliver}
 use Rattle.memory.specs.declared.answer.Answer.{Answer}
 use Rattle.memory.specs.declared.answer.Answer.TheVariants.{Accessed, Arrived, Quiet}
 use Rattle.memory.specs.Histories.{Event, History, Access, load, store, Change, at_once, opens, finishes, nothing, change}
-use Rattle.memory.specs.Placements.{Words, with_put}
+use Rattle.memory.specs.Placements.{Words}
 
 pub record Ledger : Type 0 where
   -- the one memory: a word for each address
@@ -21,10 +22,6 @@ pub record Ledger : Type 0 where
   -- how many messages were posted and not yet delivered
   pub waiting : ℕ
 
--- a function changed at one number
-abbrev pub changed : {X : Type 0} → (ℕ → X) → ℕ → X → ℕ → X
-changed f i v x = cond (x == i) v (f x)
-
 -- The array takes each access when it is answered.
 
 -- the word that an access is answered with
@@ -35,7 +32,7 @@ brought array (store address word) = word
 -- the array when an access has been answered
 abbrev pub answered : Words → Access → Words
 answered array (load address) = array
-answered array (store address word) = with_put array address word
+answered array (store address word) = changed array address word
 
 abbrev pub answered_if : Words → Option Access → Words
 answered_if array None = array

@@ -1,3 +1,4 @@
+pub mod Functions
 pub mod Kits
 pub mod Placements
 pub mod Histories

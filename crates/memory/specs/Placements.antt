@@ -1,5 +1,6 @@
 -- The memory that a kit starts with: the words that were placed, else zeros.
 use Rattle.std.specs.Prelude.{◌≡◌, ℕ, ◌*◌, ◌<◌, ◌≤◌, cond, List, [], ◌∷◌, ◌==◌, slice_set}
+use Rattle.memory.specs.Functions.{changed}
 use Rattle.lone.specs.Tables.{word_at, with_word_at}
 use Rattle.memory.specs.Kits.{Kit, table_of, start_kit}
 
@@ -12,14 +13,10 @@ pub record Placement : Type 0 where
 abbrev pub Words : Type 0
 Words = ℕ → ℕ
 
--- the array with a word put at an address
-abbrev pub with_put : Words → ℕ → ℕ → Words
-with_put words address word x = cond (x == address) word (words x)
-
 -- what placements, the newest first, leave in an array of zeros
 abbrev pub array : List Placement → Words
 array [] x = 0
-array (p ∷ ps) x = with_put (array ps) p.address p.word x
+array (p ∷ ps) x = changed (array ps) p.address p.word x
 
 -- a word is placed: it is written at board 0
 abbrev pub placed : Kit → ℕ → ℕ → Kit

@@ -3,6 +3,7 @@ use Rattle.std.proofs.Common.{◌≡◌, ℕ, ◌+◌, ◌-◌, ◌*◌, ◌<◌
 use Rattle.std.proofs.lemmas.Bool.{cases_eq, ne_eqb, eq-eqb, ltb-true, true≢false}
 use Rattle.std.proofs.lemmas.List.{set-get_or}
 use Rattle.std.specs.List.{AllByRecursion as All}
+use Rattle.memory.specs.Functions.{changed}
 use Rattle.wire.specs.Bags.{◌⊕◌}
 use Rattle.wire.specs.BoardSets as sets
 use Rattle.wire.specs.Questions.{first_no}
@@ -30,16 +31,16 @@ use Rattle.memory.specs.Calls.{Running}
 use Rattle.memory.specs.Histories.{Access}
 use Rattle.memory.specs.Kits.{Kit, state_at, table_of, board_at}
 use Rattle.memory.specs.Ledgers as specs
-use Rattle.memory.proofs.kept.Sums.{upd_same, upd_other}
+use Rattle.memory.proofs.kept.Sums.{changed_same, changed_other}
 use Rattle.memory.proofs.kept.KitKept.{Kept, left_of}
 use Rattle.memory.proofs.kept.EqualMessages.{same_mail}
 use Rattle.memory.proofs.model.Board as model
 use Rattle.memory.proofs.model.Ledgers as ledgers
 use Rattle.memory.proofs.model.Kit as kit
-use Rattle.memory.proofs.model.Sums.{upd, bit}
+use Rattle.memory.proofs.model.Sums.{bit}
 use Rattle.memory.proofs.images.Follows.{Follows}
 use Rattle.memory.proofs.images.Images.{request_image, W, entry_image, post_image, StageIs, SeatIs}
-use Rattle.memory.proofs.images.Ledgers.{Counts, Agrees, requests_are, pending_step, changed_here, changed_there}
+use Rattle.memory.proofs.images.Ledgers.{Counts, Agrees, requests_are, pending_step}
 use Rattle.memory.proofs.images.Matches.{Matches, stepped}
 use Rattle.memory.proofs.images.OpenAccesses.{pending_of, not_asked}
 use Rattle.memory.proofs.images.Posts as whole
@@ -145,8 +146,8 @@ module _ {n p : ℕ} {l : specs.Ledger} {s : Running} {w : ℕ} (f : Follows n p
   abbrev pub opened_ledger : Access → List Message → specs.Ledger
   opened_ledger x ps = record {
     array = l.array;
-    pending = specs.changed l.pending b (Some x);
-    requests = λ board. specs.changed l.requests b 0 board + specs.requests_of board ps;
+    pending = changed l.pending b (Some x);
+    requests = λ board. changed l.requests b 0 board + specs.requests_of board ps;
     waiting = l.waiting - 0 + length ps;
   }
 
@@ -156,34 +157,34 @@ module _ {n p : ℕ} {l : specs.Ledger} {s : Running} {w : ℕ} (f : Follows n p
   -- the count of a request that was just posted, or of none; the others as they were
   opened_counts : (stage : Stage) (ps : List Message) (mails : List (model.Mail W)) → map (on_page page) mails ≡ map post_image ps → ((board : ℕ) → (board ≡ b → ⊥) → kit.requests board mails ≡ 0) →
       ((kit.requests b mails ≡ 1) ⊎ ((kit.requests b mails ≡ 0) × (not_asked stage ≡ true))) →
-      (c : ℕ) → Counts n (kit_after s.kit b page (at_stage st stage) e) c (specs.changed l.requests b 0 c + specs.requests_of c ps) (upd (ledgers.more_passed f.told mails) b (kit.requests b mails - 1) c)
+      (c : ℕ) → Counts n (kit_after s.kit b page (at_stage st stage) e) c (changed l.requests b 0 c + specs.requests_of c ps) (changed (ledgers.more_passed f.told mails) b (kit.requests b mails - 1) c)
   opened_counts stage ps mails same none_else mine c = elim (cases_eq c b) [
-    | inl q ↦ subst (λ x. Counts n (kit_after s.kit b page (at_stage st stage) e) x (specs.changed l.requests b 0 x + specs.requests_of x ps) (upd (ledgers.more_passed f.told mails) b (kit.requests b mails - 1) x)) (sym q) here
+    | inl q ↦ subst (λ x. Counts n (kit_after s.kit b page (at_stage st stage) e) x (changed l.requests b 0 x + specs.requests_of x ps) (changed (ledgers.more_passed f.told mails) b (kit.requests b mails - 1) x)) (sym q) here
     | inr ne ↦ there ne
   ]
     where
       of : (x : ℕ) → specs.requests_of x ps ≡ kit.requests x mails
       of x = requests_are x page mails ps same
 
-      at_b : specs.changed l.requests b 0 b ≡ 0
-      at_b = changed_here l.requests b 0
+      at_b : changed l.requests b 0 b ≡ 0
+      at_b = changed_same l.requests b 0
 
-      up_b : upd (ledgers.more_passed f.told mails) b (kit.requests b mails - 1) b ≡ kit.requests b mails - 1
-      up_b = upd_same (ledgers.more_passed f.told mails) b (kit.requests b mails - 1)
+      up_b : changed (ledgers.more_passed f.told mails) b (kit.requests b mails - 1) b ≡ kit.requests b mails - 1
+      up_b = changed_same (ledgers.more_passed f.told mails) b (kit.requests b mails - 1)
 
       stage_now : not_asked stage ≡ true → not_asked (state_at (kit_after s.kit b page (at_stage st stage) e) b).stage ≡ true
       stage_now h = ap (λ (x : BoardState). not_asked x.stage) (state_here s.kit f.matches.sized.shape b page room (at_stage st stage) e) ∙ h
 
-      here : Counts n (kit_after s.kit b page (at_stage st stage) e) b (specs.changed l.requests b 0 b + specs.requests_of b ps) (upd (ledgers.more_passed f.told mails) b (kit.requests b mails - 1) b)
+      here : Counts n (kit_after s.kit b page (at_stage st stage) e) b (changed l.requests b 0 b + specs.requests_of b ps) (changed (ledgers.more_passed f.told mails) b (kit.requests b mails - 1) b)
       here = elim mine [
         | inl one ↦ inl (omega (arith, at_b, up_b, of b, one))
         | inr none ↦ inr (omega (arith, at_b, of b, none.0), omega (arith, up_b, none.0), λ _. stage_now none.1)
       ]
 
-      there : (c ≡ b → ⊥) → Counts n (kit_after s.kit b page (at_stage st stage) e) c (specs.changed l.requests b 0 c + specs.requests_of c ps) (upd (ledgers.more_passed f.told mails) b (kit.requests b mails - 1) c)
+      there : (c ≡ b → ⊥) → Counts n (kit_after s.kit b page (at_stage st stage) e) c (changed l.requests b 0 c + specs.requests_of c ps) (changed (ledgers.more_passed f.told mails) b (kit.requests b mails - 1) c)
       there ne =
-          let was = changed_there l.requests b 0 c ne in
-          let up : upd (ledgers.more_passed f.told mails) b (kit.requests b mails - 1) c ≡ f.told.passed c + kit.requests c mails = upd_other (ledgers.more_passed f.told mails) b (kit.requests b mails - 1) c ne in
+          let was = changed_other l.requests b 0 c ne in
+          let up : changed (ledgers.more_passed f.told mails) b (kit.requests b mails - 1) c ≡ f.told.passed c + kit.requests c mails = changed_other (ledgers.more_passed f.told mails) b (kit.requests b mails - 1) c ne in
           let none = none_else c ne in
           elim (f.agrees.counts c) [
             | inl e ↦ inl (omega (arith, was, up, of c, none, e))
@@ -197,8 +198,8 @@ module _ {n p : ℕ} {l : specs.Ledger} {s : Running} {w : ℕ} (f : Follows n p
   opened_agrees x o stage ps mails pending same none_else mine = record {
     words = f.agrees.words;
     counts = λ c. opened_counts stage ps mails same none_else mine c;
-    pending = pending_step n s.kit f.matches.sized.shape b page room (at_stage st stage) e l.pending (specs.changed l.pending b (Some x)) f.agrees.pending (changed_here l.pending b (Some x) ∙ sym pending) (changed_there l.pending b (Some x));
-    none_else = λ c lc. changed_there l.pending b (Some x) c (λ q. absurd (omega (arith, q, lc, in_board))) ∙ f.agrees.none_else c lc;
+    pending = pending_step n s.kit f.matches.sized.shape b page room (at_stage st stage) e l.pending (changed l.pending b (Some x)) f.agrees.pending (changed_same l.pending b (Some x) ∙ sym pending) (changed_other l.pending b (Some x));
+    none_else = λ c lc. changed_other l.pending b (Some x) c (λ q. absurd (omega (arith, q, lc, in_board))) ∙ f.agrees.none_else c lc;
     waiting = omega (arith, f.agrees.waiting, size_beside ps s.waiting);
   }
 

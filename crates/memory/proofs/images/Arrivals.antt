@@ -3,6 +3,7 @@ use Rattle.std.proofs.Common.{◌≡◌, ℕ, ◌<◌, ◌≤◌, Bool, true, fa
 use Rattle.std.proofs.lemmas.Bool.{and_parts, eqb-true, true≢false}
 use Rattle.std.proofs.lemmas.Bool.Decides.{nat_tests}
 use Rattle.std.specs.List.{AllByRecursion as All}
+use Rattle.memory.specs.Functions.{changed}
 use Rattle.wire.specs.BoardSets as sets
 use Rattle.wire.specs.declared.message.Message.{Message}
 use Rattle.wire.specs.declared.message.Kind.{Kind}
@@ -28,7 +29,6 @@ use Rattle.memory.proofs.model.Board as model
 use Rattle.memory.proofs.model.Kit.{closed, Seat, Reply, replies, invalidates, open_on, vacant, with_waiting, with_awaited, with_deferral, arrive, finish, finish_load}
 use Rattle.memory.proofs.model.Sets.{has}
 use Rattle.memory.proofs.model.Steps.{Answer, nothing, read_at, written_at}
-use Rattle.memory.proofs.model.Sums.{upd}
 use Rattle.memory.proofs.images.Images.{W, entry_image, kind_image, request_image, mail_by, mail_image, post_image, put_word, deferral_image, StageIs, SeatIs}
 use Rattle.memory.proofs.images.Serving.{FewHops, Full, entry_served, mail_served, entries_served, mails_served}
 use Rattle.memory.proofs.images.Sets.{has_is, nobody_is, empty_is, lacking_is, map_joined, invalidates_are, on_page}
@@ -253,14 +253,14 @@ module _ (n : ℕ) (s : BoardState) (e : PageEntry) (m : Message) (seat : Seat W
   counted : (c : ClearingStore) → s.stage ≡ Clearing c → eqb (page_of c.store.address) m.page ≡ true → sets.has c.awaited m.from ≡ true → Replied m.page (board.count_acknowledgement c s e m) (on (model.acknowledge m.from m.to) (Clearing c))
   counted c q o w =
       let h = stage_at (Clearing c) q in
-      rw (o, h.0, h.3 m.from ∙ w, empty_is (sets.without_member c.awaited m.from) n (upd seat.awaited m.from false) (lacking_is c.awaited m.from seat.awaited h.3) (below_without c.awaited m.from n (f.awaited c q))) (by (sets.is_empty (sets.without_member c.awaited m.from)))
+      rw (o, h.0, h.3 m.from ∙ w, empty_is (sets.without_member c.awaited m.from) n (changed seat.awaited m.from false) (lacking_is c.awaited m.from seat.awaited h.3) (below_without c.awaited m.from n (f.awaited c q))) (by (sets.is_empty (sets.without_member c.awaited m.from)))
     where
       by : (b : Bool) → Replied m.page
           (cond b (board.finish_store c.store c.hops s m.page e) (board.still (at_stage s (Clearing (record c { awaited = sets.without_member c.awaited m.from }))) e))
-          (cond b (finish me seat c.hops e.words) (replies (with_awaited seat c.hops (upd seat.awaited m.from false)) E [] nothing))
+          (cond b (finish me seat c.hops e.words) (replies (with_awaited seat c.hops (changed seat.awaited m.from false)) E [] nothing))
       by true = finished c.store c.hops e (f.owner c q (eqb-true (page_of c.store.address) m.page o)) (stage_at (Clearing c) q).2
       by false = let h = stage_at (Clearing c) q in record {
-        seat = with_awaited seat c.hops (upd seat.awaited m.from false);
+        seat = with_awaited seat c.hops (changed seat.awaited m.from false);
         entry = E;
         mails = [];
         answer = nothing;

@@ -1,6 +1,7 @@
 -- Whatever waits on the link of a kit is expected by the board that it is addressed to.
 use Rattle.std.proofs.Common.{◌≡◌, ℕ, Bool, true, false, cond, ◌||◌, eqb, List, [], ◌∷◌, map, refl, ap, ◌∙◌, arith}
 use Rattle.std.proofs.lemmas.Bool.{and_from}
+use Rattle.memory.specs.Functions.{changed}
 use Rattle.wire.specs.declared.message.Message.{Message}
 use Rattle.wire.specs.declared.message.Kind.{Kind}
 use Rattle.wire.specs.declared.message.Kind.TheVariants.{ReadRequest, WriteRequest, Copy, Grant, Invalidate, Acknowledgement}
@@ -16,7 +17,7 @@ use Rattle.wire.specs.BoardSets as sets
 use Rattle.memory.proofs.model.Board as model
 use Rattle.memory.proofs.model.Kit as kit
 use Rattle.memory.proofs.model.Page.{occ}
-use Rattle.memory.proofs.model.Sums.{bit, upd}
+use Rattle.memory.proofs.model.Sums.{bit}
 use Rattle.memory.proofs.model.Steps.{nothing}
 use Rattle.memory.proofs.images.Images.{W, entry_image, request_image, mail_by, StageIs, SeatIs}
 
@@ -96,7 +97,7 @@ module _ (n : ℕ) (s : BoardState) (e : PageEntry) (m : Message) (seat : kit.Se
     where
       counting : ℕ → Bool → kit.Reply W
       counting hops b = cond b
-          (cond (kit.none_below n (upd seat.awaited m.from false)) (kit.finish s.number seat hops e.words) (kit.replies (kit.with_awaited seat hops (upd seat.awaited m.from false)) (entry_image e) [] nothing))
+          (cond (kit.none_below n (changed seat.awaited m.from false)) (kit.finish s.number seat hops e.words) (kit.replies (kit.with_awaited seat hops (changed seat.awaited m.from false)) (entry_image e) [] nothing))
           kit.refused
 
   pub acknowledgement_expected : (st : Stage) → s.stage ≡ st → (Refused the_acknowledgement st → ⊥) → expects st Acknowledgement s e m ≡ true

@@ -1,6 +1,7 @@
 -- A delivery answers rightly, and the ledgers agree after it.
 use Rattle.std.proofs.Common.{◌≡◌, ℕ, ◌+◌, ◌-◌, ◌*◌, ◌<◌, ◌≤◌, true, not, ◌&&◌, nat_lt, nat_le, List, get_or, Some, None, Ok, Option, refl, ap, ◌∙◌, sym, subst, arith}
 use Rattle.std.proofs.lemmas.Bool.{and_parts, ltb-true}
+use Rattle.memory.specs.Functions.{changed}
 use Rattle.wire.specs.Bags.{Bag, ◌&◌, ◌⊕◌, size}
 use Rattle.wire.specs.BoardSets.{is_empty, is_part}
 use Rattle.wire.specs.Messages.{most_hops}
@@ -33,7 +34,8 @@ use Rattle.memory.proofs.model.Kit as kit
 use Rattle.memory.proofs.model.Steps.{Answer, nothing, read_at, written_at}
 use Rattle.memory.proofs.images.Arrivals.{AnswerIs}
 use Rattle.memory.proofs.images.Images.{W, put_word, StageIs}
-use Rattle.memory.proofs.images.Ledgers.{WordsAgree, Counts, Agrees, put_agrees, pending_step, changed_here, changed_there}
+use Rattle.memory.proofs.kept.Sums.{changed_same, changed_other}
+use Rattle.memory.proofs.images.Ledgers.{WordsAgree, Counts, Agrees, put_agrees, pending_step}
 use Rattle.memory.proofs.images.OpenAccesses.{pending_of, OwnWord, WasOpen}
 use Rattle.memory.proofs.images.Tables.{Shaped, kit_after}
 
@@ -170,9 +172,9 @@ module _ (n p : ℕ) (l : specs.Ledger) (s : Running) (ml : Ledger W) (ag : Agre
     agrees ans a state entry counts idle rest waited = record {
       words = words_by w.access ans refl a;
       counts = counts_by (kit_after s.kit board page state entry) ans a counts;
-      pending = pending_step n s.kit shape board page (omega (arith, in_board, few)) state entry l.pending (specs.changed l.pending f.board None) ag.pending
-          (ap (specs.changed l.pending f.board None) (sym here) ∙ changed_here l.pending f.board None ∙ sym (ap pending_of idle)) (λ b ne. changed_there l.pending f.board None b (λ q. ne (q ∙ here)));
-      none_else = λ b lb. changed_there l.pending f.board None b (λ q. let e = q ∙ here in absurd (omega (arith, e, lb, in_board))) ∙ ag.none_else b lb;
+      pending = pending_step n s.kit shape board page (omega (arith, in_board, few)) state entry l.pending (changed l.pending f.board None) ag.pending
+          (ap (changed l.pending f.board None) (sym here) ∙ changed_same l.pending f.board None ∙ sym (ap pending_of idle)) (λ b ne. changed_other l.pending f.board None b (λ q. ne (q ∙ here)));
+      none_else = λ b lb. changed_other l.pending f.board None b (λ q. let e = q ∙ here in absurd (omega (arith, e, lb, in_board))) ∙ ag.none_else b lb;
       waiting = omega (arith, ag.waiting, ap size waited, size_beside posts rest);
     }
 

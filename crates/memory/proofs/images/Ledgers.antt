@@ -3,6 +3,7 @@ use Rattle.std.proofs.Common.{◌≡◌, ℕ, ◌+◌, ◌-◌, ◌*◌, ◌<◌
 use Rattle.std.proofs.lemmas.Bool.{cases_eq}
 use Rattle.std.proofs.lemmas.Bool.Decides.{nat_tests}
 use Rattle.std.proofs.lemmas.List.{length-set, get_or-set_same, get_or-set_other}
+use Rattle.memory.specs.Functions.{changed}
 use Rattle.wire.specs.Bags.{size}
 use Rattle.wire.specs.declared.message.Message.{Message}
 use Rattle.wire.specs.declared.message.Kind.{Kind}
@@ -14,12 +15,11 @@ use Rattle.memory.specs.Calls.{Running}
 use Rattle.memory.specs.Histories.{Access}
 use Rattle.memory.specs.Kits.{Kit, state_at}
 use Rattle.memory.specs.Ledgers as specs
-use Rattle.memory.specs.Placements.{Words, with_put}
-use Rattle.memory.proofs.kept.Sums.{upd_same, upd_other}
+use Rattle.memory.specs.Placements.{Words}
+use Rattle.memory.proofs.kept.Sums.{changed_same, changed_other}
 use Rattle.memory.proofs.model.Board.{Mail}
 use Rattle.memory.proofs.model.Ledgers.{Ledger}
 use Rattle.memory.proofs.model.Kit.{Post, requests, asks_of}
-use Rattle.memory.proofs.model.Sums.{upd}
 use Rattle.memory.proofs.images.Images.{W, mail_by, post_image, put_word}
 use Rattle.memory.proofs.images.OpenAccesses.{pending_of, not_asked}
 use Rattle.memory.proofs.images.Sets.{on_page}
@@ -51,11 +51,11 @@ pub record Agrees (n p : ℕ) (l : specs.Ledger) (s : Running) (ml : Ledger W) :
   pub waiting : l.waiting ≡ size s.waiting
 
 -- a word is put
-put_long : (p address word : ℕ) (memory : ℕ → W) → ((r : ℕ) → r < p → length (memory r) ≡ 16) → (r : ℕ) → r < p → length (upd memory (page_of address) (put_word address word (memory (page_of address))) r) ≡ 16
+put_long : (p address word : ℕ) (memory : ℕ → W) → ((r : ℕ) → r < p → length (memory r) ≡ 16) → (r : ℕ) → r < p → length (changed memory (page_of address) (put_word address word (memory (page_of address))) r) ≡ 16
 put_long p address word memory long r l = elim (cases_eq r (page_of address)) [
-  | inl e ↦ ap length (ap (upd memory (page_of address) (put_word address word (memory (page_of address)))) e ∙ upd_same memory (page_of address) (put_word address word (memory (page_of address))))
+  | inl e ↦ ap length (ap (changed memory (page_of address) (put_word address word (memory (page_of address)))) e ∙ changed_same memory (page_of address) (put_word address word (memory (page_of address))))
       ∙ length-set (memory (page_of address)) (place_of address) word ∙ ap (λ x. length (memory x)) (sym e) ∙ long r l
-  | inr ne ↦ ap length (upd_other memory (page_of address) (put_word address word (memory (page_of address))) r ne) ∙ long r l
+  | inr ne ↦ ap length (changed_other memory (page_of address) (put_word address word (memory (page_of address))) r ne) ∙ long r l
 ]
 
 put_same : (address word x : ℕ) (ws : W) → page_of x ≡ page_of address → length ws ≡ 16 → cond (eqb x address) word (get_or ws (place_of x) 0) ≡ get_or (put_word address word ws) (place_of x) 0
@@ -64,13 +64,13 @@ put_same address word x ws e l = grind (arith, nat_tests, cases_eq (place_of x) 
 elsewhere : (address x : ℕ) → (page_of x ≡ page_of address → ⊥) → eqb x address ≡ false
 elsewhere address x ne = grind (arith, nat_tests)
 
-pub put_agrees : (p address word : ℕ) (array : Words) (memory : ℕ → W) → page_of address < p → WordsAgree p array memory → WordsAgree p (with_put array address word) (upd memory (page_of address) (put_word address word (memory (page_of address))))
+pub put_agrees : (p address word : ℕ) (array : Words) (memory : ℕ → W) → page_of address < p → WordsAgree p array memory → WordsAgree p (changed array address word) (changed memory (page_of address) (put_word address word (memory (page_of address))))
 put_agrees p address word array memory l a = record {
   long = put_long p address word memory a.long;
   same = λ x lx. elim (cases_eq (page_of x) (page_of address)) [
     | inl e ↦ ap (cond (eqb x address) word) (a.same x lx ∙ ap (λ r. get_or (memory r) (place_of x) 0) e) ∙ put_same address word x (memory (page_of address)) e (a.long (page_of address) l)
-        ∙ ap (λ ws. get_or ws (place_of x) 0) (sym (ap (upd memory (page_of address) (put_word address word (memory (page_of address)))) e ∙ upd_same memory (page_of address) (put_word address word (memory (page_of address)))))
-    | inr ne ↦ ap (λ (b : Bool). cond b word (array x)) (elsewhere address x ne) ∙ a.same x lx ∙ ap (λ ws. get_or ws (place_of x) 0) (sym (upd_other memory (page_of address) (put_word address word (memory (page_of address))) (page_of x) ne))
+        ∙ ap (λ ws. get_or ws (place_of x) 0) (sym (ap (changed memory (page_of address) (put_word address word (memory (page_of address)))) e ∙ changed_same memory (page_of address) (put_word address word (memory (page_of address)))))
+    | inr ne ↦ ap (λ (b : Bool). cond b word (array x)) (elsewhere address x ne) ∙ a.same x lx ∙ ap (λ ws. get_or ws (place_of x) 0) (sym (changed_other memory (page_of address) (put_word address word (memory (page_of address))) (page_of x) ne))
   ];
 }
 
@@ -106,9 +106,3 @@ pending_step n k shape board page inside st e before after was here there b l = 
   | inl q ↦ ap after q ∙ here ∙ ap (λ (x : BoardState). pending_of x.stage) (sym (state_here k shape board page inside st e)) ∙ ap (λ x. pending_of (state_at (kit_after k board page st e) x).stage) (sym q)
   | inr ne ↦ there b ne ∙ was b l ∙ ap (λ (x : BoardState). pending_of x.stage) (sym (state_there k shape board page inside st e b ne))
 ]
-
-pub changed_here : {X : Type 0} (f : ℕ → X) (i : ℕ) (v : X) → specs.changed f i v i ≡ v
-changed_here f i v = upd_same f i v
-
-pub changed_there : {X : Type 0} (f : ℕ → X) (i : ℕ) (v : X) (x : ℕ) → (x ≡ i → ⊥) → specs.changed f i v x ≡ f x
-changed_there f i v x ne = upd_other f i v x ne

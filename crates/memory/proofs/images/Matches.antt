@@ -2,6 +2,7 @@
 use Rattle.std.proofs.Common.{◌≡◌, ℕ, ◌<◌, ◌≤◌, true, List, map, ap, ◌∙◌, sym, subst, inl, inr, arith}
 use Rattle.std.proofs.lemmas.Bool.{cases_eq}
 use Rattle.std.specs.List.{AllByRecursion as All}
+use Rattle.memory.specs.Functions.{changed}
 use Rattle.wire.specs.Bags.{Bag, ◌⊕◌}
 use Rattle.wire.specs.declared.message.Message.{Message}
 use Rattle.board.specs.Boards.{BoardState}
@@ -14,8 +15,7 @@ use Rattle.memory.specs.Calls.{Running}
 use Rattle.memory.specs.Kits.{Kit, state_at, table_of, board_at}
 use Rattle.memory.proofs.model.Board.{Mail, Entry}
 use Rattle.memory.proofs.model.Kit as model
-use Rattle.memory.proofs.model.Sums.{upd}
-use Rattle.memory.proofs.kept.Sums.{upd_same, upd_other}
+use Rattle.memory.proofs.kept.Sums.{changed_same, changed_other}
 use Rattle.memory.proofs.images.Bags.{post_all_is, map_beside}
 use Rattle.memory.proofs.images.Fitting.{AllFit, posts_fit}
 use Rattle.memory.proofs.images.Images.{W, entry_image, post_image, map_bag, SeatIs}
@@ -62,10 +62,10 @@ module _ {n p : ℕ} (s : Running) (k : model.Kit W) (board page : ℕ) (in_boar
   new = kit_after s.kit board page state entry
 
   abbrev there : model.Board W
-  there = record { seat = seat; entry = upd (k.board board).entry page image }
+  there = record { seat = seat; entry = changed (k.board board).entry page image }
 
   abbrev boards : ℕ → model.Board W
-  boards = upd k.board board there
+  boards = changed k.board board there
 
   module _ (z : Sized n p s.kit) (b : BoardsMatch n p s.kit k.board) {posts : List Message} {mails : List (Mail W)} (t : StepMatches n p s.kit board page state entry posts seat image mails) where
     room : board < 16
@@ -84,11 +84,11 @@ module _ {n p : ℕ} (s : Running) (k : model.Kit W) (board page : ℕ) (in_boar
       ];
     }
 
-    entry_now : (r : ℕ) → r < p → upd (k.board board).entry page image r ≡ entry_image (entry_at (table_of new board) r)
+    entry_now : (r : ℕ) → r < p → changed (k.board board).entry page image r ≡ entry_image (entry_at (table_of new board) r)
     entry_now r l = elim (cases_eq r page) [
-      | inl e ↦ ap (upd (k.board board).entry page image) e ∙ upd_same (k.board board).entry page image ∙ t.entry_is
+      | inl e ↦ ap (changed (k.board board).entry page image) e ∙ changed_same (k.board board).entry page image ∙ t.entry_is
           ∙ ap entry_image (sym (ap (entry_at (table_of new board)) e ∙ entry_here s.kit z.shape board page room state entry (omega (arith, in_page, z.few_pages))))
-      | inr ne ↦ upd_other (k.board board).entry page image r ne ∙ b.entries board r in_board l ∙ ap entry_image (sym (entry_beside s.kit z.shape board page room state entry r ne))
+      | inr ne ↦ changed_other (k.board board).entry page image r ne ∙ b.entries board r in_board l ∙ ap entry_image (sym (entry_beside s.kit z.shape board page room state entry r ne))
     ]
 
     full_now : (r : ℕ) → r < p → Full (entry_at (table_of new board) r)
@@ -109,12 +109,12 @@ module _ {n p : ℕ} (s : Running) (k : model.Kit W) (board page : ℕ) (in_boar
       ];
       seats = λ x l. elim (cases_eq x board) [
         | inl e ↦ subst (λ y. SeatIs (state_at new y) (boards y).seat) (sym e)
-            (subst (λ (y : BoardState). SeatIs y (boards board).seat) (sym (state_here s.kit z.shape board page room state entry)) (subst (λ (y : model.Board W). SeatIs state y.seat) (sym (upd_same k.board board there)) t.seat_is))
-        | inr ne ↦ subst (λ (y : BoardState). SeatIs y (boards x).seat) (sym (state_there s.kit z.shape board page room state entry x ne)) (subst (λ (y : model.Board W). SeatIs (state_at s.kit x) y.seat) (sym (upd_other k.board board there x ne)) (b.seats x l))
+            (subst (λ (y : BoardState). SeatIs y (boards board).seat) (sym (state_here s.kit z.shape board page room state entry)) (subst (λ (y : model.Board W). SeatIs state y.seat) (sym (changed_same k.board board there)) t.seat_is))
+        | inr ne ↦ subst (λ (y : BoardState). SeatIs y (boards x).seat) (sym (state_there s.kit z.shape board page room state entry x ne)) (subst (λ (y : model.Board W). SeatIs (state_at s.kit x) y.seat) (sym (changed_other k.board board there x ne)) (b.seats x l))
       ];
       entries = λ x r lx lr. elim (cases_eq x board) [
-        | inl e ↦ ap (λ y. (boards y).entry r) e ∙ ap (λ (y : model.Board W). y.entry r) (upd_same k.board board there) ∙ entry_now r lr ∙ ap (λ y. entry_image (entry_at (table_of new y) r)) (sym e)
-        | inr ne ↦ ap (λ (y : model.Board W). y.entry r) (upd_other k.board board there x ne) ∙ b.entries x r lx lr ∙ ap (λ (y : List PageEntry). entry_image (entry_at y r)) (sym (table_there s.kit z.shape board page room state entry x ne))
+        | inl e ↦ ap (λ y. (boards y).entry r) e ∙ ap (λ (y : model.Board W). y.entry r) (changed_same k.board board there) ∙ entry_now r lr ∙ ap (λ y. entry_image (entry_at (table_of new y) r)) (sym e)
+        | inr ne ↦ ap (λ (y : model.Board W). y.entry r) (changed_other k.board board there x ne) ∙ b.entries x r lx lr ∙ ap (λ (y : List PageEntry). entry_image (entry_at y r)) (sym (table_there s.kit z.shape board page room state entry x ne))
       ];
     }
 

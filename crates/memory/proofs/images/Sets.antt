@@ -6,12 +6,12 @@ use Rattle.std.specs.List.{filter, range_with_len}
 use Rattle.wire.specs.BoardSets as sets
 use Rattle.wire.specs.declared.board_set.BoardSet.{BoardSet}
 use Rattle.memory.proofs.model.Sets.{has, put, nobody}
-use Rattle.memory.proofs.model.Sums.{upd}
 use Rattle.memory.proofs.model.Kit.{none_below, invalidates, Post}
 use Rattle.memory.proofs.model.Board.{Mail, invalidate}
 use Rattle.memory.proofs.images.Images.{W, post_image}
 use Rattle.wire.proofs.BoardSets.{member_below, lacks}
 use Rattle.std.proofs.lemmas.List.{get_or-set_other, append-nil}
+use Rattle.memory.specs.Functions.{changed}
 use Rattle.board.specs.Posts as board
 
 pub has_is : (c : List Bool) (y : ℕ) → has c y ≡ get_or c y false
@@ -62,7 +62,7 @@ pub empty_is : (s : BoardSet) (n : ℕ) (f : ℕ → Bool) → ((y : ℕ) → f 
 empty_is s n f h below = empty_by s n f (sets.is_empty s) refl h below
 
 -- a member is taken out
-pub lacking_is : (s : BoardSet) (a : ℕ) (f : ℕ → Bool) → ((y : ℕ) → f y ≡ sets.has s y) → (y : ℕ) → upd f a false y ≡ sets.has (sets.without_member s a) y
+pub lacking_is : (s : BoardSet) (a : ℕ) (f : ℕ → Bool) → ((y : ℕ) → f y ≡ sets.has s y) → (y : ℕ) → changed f a false y ≡ sets.has (sets.without_member s a) y
 lacking_is s a f h y = elim (cases_eq y a) [
   | inl e ↦ (let z = lacks s a in rw e (grind (arith, nat_tests)))
   | inr e ↦ (let z : sets.has (sets.without_member s a) y ≡ sets.has s y = get_or-set_other s.members a y false false e in let w = h y in grind (arith, nat_tests))

@@ -1,6 +1,7 @@
 -- A call on a kit keeps what is kept of it, and is answered rightly.
 use Rattle.std.proofs.Common.{◌≡◌, ℕ, ◌<◌, Bool, true, false, ◌⊎◌, List, [], ◌∷◌, sym, refl, ap, ◌∙◌, subst, inl, inr, arith}
 use Rattle.std.proofs.lemmas.Bool.{cases_eq}
+use Rattle.memory.specs.Functions.{changed}
 use Rattle.memory.proofs.model.Board.{write, load, store, Entry, Mail, request, store_entry}
 use Rattle.memory.proofs.model.Calls.{Order, Said, Does, loads_now, loads_later, stores_now, stores_clearing, stores_later, delivers_it, delivers_none}
 use Rattle.memory.proofs.model.Ledgers.{Ledger, after, Good}
@@ -9,7 +10,6 @@ use Rattle.memory.proofs.model.Told.{Told, Equality}
 use Rattle.memory.proofs.model.Page.{home, asking, clearing, is_none, busy, far, marks}
 use Rattle.memory.proofs.model.Sets.{has}
 use Rattle.memory.proofs.model.Steps.{goes, stored_at, ask_load, ask_store, clear, MayStore, store_now}
-use Rattle.memory.proofs.model.Sums.{upd}
 use Rattle.memory.proofs.kept.AccessOpens.{free_is, undeferred, home_is, opened_kept, requests_self}
 use Rattle.memory.proofs.kept.Below.{none_anywhere, none_false}
 use Rattle.memory.proofs.kept.CallsTold.{ask_told, clear_told, now_told}
@@ -20,7 +20,7 @@ use Rattle.memory.proofs.kept.Messages.{invalidates_ask}
 use Rattle.memory.proofs.kept.NothingWaits.{quiet_none}
 use Rattle.memory.proofs.kept.PageKept.{step_kept}
 use Rattle.memory.proofs.kept.Roots.{own}
-use Rattle.memory.proofs.kept.Sums.{upd_self_at, upd_same, upd_other, upd_both}
+use Rattle.memory.proofs.kept.Sums.{changed_self_at, changed_same, changed_other, changed_both}
 
 module _ {W : Type 0} {same : Mail W → Mail W → Bool} {n : ℕ} {l : Ledger W} {k : Kit W} (law : Equality same) (i : Kept same n l k) where
   copies_below : (b p : ℕ) → b < n → (i.pages p).journey b ≡ home → ((i.pages p).entry b).hint ≡ b → (y : ℕ) → has ((i.pages p).entry b).copies y ≡ true → y < n
@@ -48,7 +48,7 @@ module _ {W : Type 0} {same : Mail W → Mail W → Bool} {n : ℕ} {l : Ledger 
       let e' = e ∙ ap (λ (z : Entry W). request load z.hint b 0 ∷ []) t in
       let told = ask_told same law n k i.pages i.told b p shut (free_is law i b p shut) (undeferred law i b p shut) load (λ w. w) in (
         opened_kept law i b p shut (op_load p) (asked load) (λ w. w) (λ _. false) ((k.board b).entry p) ms (asking load ((i.pages p).entry b).hint 0) refl
-            (subst (λ z. Told same (becomes k b p (opened_seat p (asked load) (λ w. w) (λ _. false)) ((k.board b).entry p) z k.link) (upd i.pages p (goes (i.pages p) b (asking load ((i.pages p).entry b).hint 0)))) (sym e') told)
+            (subst (λ z. Told same (becomes k b p (opened_seat p (asked load) (λ w. w) (λ _. false)) ((k.board b).entry p) z k.link) (changed i.pages p (goes (i.pages p) b (asking load ((i.pages p).entry b).hint 0)))) (sym e') told)
             (ask_load b lt h (ap (λ (z : Entry W). z.access) (sym t) ∙ a))
             refl (requests_self load _ b b ms e).0 (λ x. (requests_self load _ b x ms e).1),
         tt,
@@ -59,7 +59,7 @@ module _ {W : Type 0} {same : Mail W → Mail W → Bool} {n : ℕ} {l : Ledger 
       let e' = e ∙ ap (λ (z : Entry W). request store z.hint b 0 ∷ []) t in
       let told = ask_told same law n k i.pages i.told b p shut (free_is law i b p shut) (undeferred law i b p shut) store f in (
         opened_kept law i b p shut (op_store p f) (asked store) f (λ _. false) ((k.board b).entry p) ms (asking store ((i.pages p).entry b).hint 0) refl
-            (subst (λ z. Told same (becomes k b p (opened_seat p (asked store) f (λ _. false)) ((k.board b).entry p) z k.link) (upd i.pages p (goes (i.pages p) b (asking store ((i.pages p).entry b).hint 0)))) (sym e') told)
+            (subst (λ z. Told same (becomes k b p (opened_seat p (asked store) f (λ _. false)) ((k.board b).entry p) z k.link) (changed i.pages p (goes (i.pages p) b (asking store ((i.pages p).entry b).hint 0)))) (sym e') told)
             (ask_store b lt h (λ q. a (ap (λ (z : Entry W). z.hint) t ∙ q)))
             refl (requests_self store _ b b ms e).0 (λ x. (requests_self store _ b x ms e).1),
         tt,
@@ -72,9 +72,9 @@ module _ {W : Type 0} {same : Mail W → Mail W → Bool} {n : ℕ} {l : Ledger 
       let y_in : has ((i.pages p).entry b).copies y.0 ≡ true = ap (λ (z : Entry W). has z.copies y.0) (sym t) ∙ y.2 in
       let goal_page = goes (i.pages p) b (clearing 0 (marks ((i.pages p).entry b).copies)) in
       let told = clear_told same law n k i.pages i.told b p shut (free_is law i b p shut) (undeferred law i b p shut) f (copies_below b p lt h q) in
-      let told' = subst (λ (z : Entry W). Told same (becomes k b p (opened_seat p (clears 0) f (has z.copies)) ((k.board b).entry p) (invalidates n b z.copies) k.link) (upd i.pages p goal_page)) (sym t) told in (
+      let told' = subst (λ (z : Entry W). Told same (becomes k b p (opened_seat p (clears 0) f (has z.copies)) ((k.board b).entry p) (invalidates n b z.copies) k.link) (changed i.pages p goal_page)) (sym t) told in (
         opened_kept law i b p shut (op_store p f) (clears 0) f (has ((k.board b).entry p).copies) ((k.board b).entry p) ms (clearing 0 (marks ((i.pages p).entry b).copies)) refl
-            (subst (λ z. Told same (becomes k b p (opened_seat p (clears 0) f (has ((k.board b).entry p).copies)) ((k.board b).entry p) z k.link) (upd i.pages p goal_page)) (sym e) told')
+            (subst (λ z. Told same (becomes k b p (opened_seat p (clears 0) f (has ((k.board b).entry p).copies)) ((k.board b).entry p) z k.link) (changed i.pages p goal_page)) (sym e) told')
             (clear b y.0 lt h q y_in)
             refl (omega (arith, invalidates_ask n b b ((k.board b).entry p).copies ms e)) (λ x _. invalidates_ask n b x ((k.board b).entry p).copies ms e),
         tt,
@@ -84,21 +84,21 @@ module _ {W : Type 0} {same : Mail W → Mail W → Bool} {n : ℕ} {l : Ledger 
       let h = home_is law i b p shut in
       let g = stored_at (i.pages p) b (f ((i.pages p).entry b).words) in
       let told = now_told same law n k i.pages i.told b p shut (free_is law i b p shut) (undeferred law i b p shut) (f ((i.pages p).entry b).words) in
-      let told' = subst (λ (z : Entry W). Told same (becomes k b p (k.board b).seat (store_entry b (f z.words)) [] k.link) (upd i.pages p g)) (sym t) told in
+      let told' = subst (λ (z : Entry W). Told same (becomes k b p (k.board b).seat (store_entry b (f z.words)) [] k.link) (changed i.pages p g)) (sym t) told in
       let inv = (step_kept (i.each p) {q = g} (store_now b f lt h (may_do b p lt h t may))).0 in
-      let still : (r x : ℕ) → (upd i.pages p g r).journey x ≡ (i.pages r).journey x = λ r x. upd_both (λ r z. z.journey x ≡ (i.pages r).journey x) i.pages p g r (upd_self_at (i.pages p).journey b home (sym h) x) (λ _. refl) in
-      let z : Board W = record { seat = (k.board b).seat; entry = upd (k.board b).entry p (store_entry b (f ((k.board b).entry p).words)) } in
-      let seats : (x : ℕ) → (upd k.board b z x).seat ≡ (k.board x).seat = λ x. upd_both (λ x y. y.seat ≡ (k.board x).seat) k.board b z x refl (λ _. refl) in (
+      let still : (r x : ℕ) → (changed i.pages p g r).journey x ≡ (i.pages r).journey x = λ r x. changed_both (λ r z. z.journey x ≡ (i.pages r).journey x) i.pages p g r (changed_self_at (i.pages p).journey b home (sym h) x) (λ _. refl) in
+      let z : Board W = record { seat = (k.board b).seat; entry = changed (k.board b).entry p (store_entry b (f ((k.board b).entry p).words)) } in
+      let seats : (x : ℕ) → (changed k.board b z x).seat ≡ (k.board x).seat = λ x. changed_both (λ x y. y.seat ≡ (k.board x).seat) k.board b z x refl (λ _. refl) in (
         record {
-          pages = upd i.pages p g;
+          pages = changed i.pages p g;
           told = told';
           each = λ r. elim (cases_eq r p) [
-            | inl q ↦ rw (ap (upd i.pages p g) q ∙ upd_same i.pages p g, ap (upd l.memory p (f (l.memory p))) q ∙ upd_same l.memory p (f (l.memory p))) inv
-            | inr q ↦ rw (upd_other i.pages p g r q, upd_other l.memory p (f (l.memory p)) r q) (i.each r)
+            | inl q ↦ rw (ap (changed i.pages p g) q ∙ changed_same i.pages p g, ap (changed l.memory p (f (l.memory p))) q ∙ changed_same l.memory p (f (l.memory p))) inv
+            | inr q ↦ rw (changed_other i.pages p g r q, changed_other l.memory p (f (l.memory p)) r q) (i.each r)
           ];
           opens = λ x. i.opens x ∙ ap (λ y. op_of y) (sym (seats x));
           passed = λ x on.
-              let y : (upd i.pages p g (upd k.board b z x).seat.page).journey x ≡ (i.pages (k.board x).seat.page).journey x = ap (λ (s : Seat W). (upd i.pages p g s.page).journey x) (seats x) ∙ still (k.board x).seat.page x in
+              let y : (changed i.pages p g (changed k.board b z x).seat.page).journey x ≡ (i.pages (k.board x).seat.page).journey x = ap (λ (s : Seat W). (changed i.pages p g s.page).journey x) (seats x) ∙ still (k.board x).seat.page x in
               omega (arith, i.passed x (sym (ap busy y) ∙ on), ap far y);
           light = λ r x. rw (still r x) (i.light r x);
           bound = λ x. omega (arith, i.bound x);

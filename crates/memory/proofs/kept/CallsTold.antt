@@ -1,12 +1,13 @@
 -- After a call on a board with nothing open, the kit is told by its pages again.
 use Rattle.std.proofs.Common.{◌≡◌, ℕ, ◌+◌, ◌<◌, Bool, true, false, List, [], ◌∷◌, ap, arith}
+use Rattle.memory.specs.Functions.{changed}
 use Rattle.memory.proofs.model.Board.{Kind, Mail, request, store_entry}
 use Rattle.memory.proofs.model.Kit.{absent, just, closed, asked, clears, Kit, invalidates, post_all, becomes, opened_seat}
 use Rattle.memory.proofs.model.Told.{slot, deferral_of, on_link, times, Told, Equality}
 use Rattle.memory.proofs.model.Page.{deferred, home, asking, clearing, Page, busy, loading, mark, marks}
 use Rattle.memory.proofs.model.Sets.{has}
 use Rattle.memory.proofs.model.Steps.{goes, stored_at}
-use Rattle.memory.proofs.model.Sums.{upd, bit}
+use Rattle.memory.proofs.model.Sums.{bit}
 use Rattle.memory.proofs.kept.DeliverySteps.{replace}
 use Rattle.memory.proofs.kept.Messages.{listed, times_post, invalidates_listed}
 use Rattle.memory.proofs.kept.Sets.{facts}
@@ -24,11 +25,11 @@ module _ {W : Type 0} (same : Mail W → Mail W → Bool) (law : Equality same) 
   not_awaited : deferral_of (mark P b) P.root ≡ absent
   not_awaited = let e = idle p in grind (arith, facts)
 
-  posted : (ms : List (Mail W)) (q : Page W) → ((x : Mail W) → bit (on_link same q.journey x) ≡ bit (on_link same P.journey x) + listed same x ms) → (r : ℕ) (x : Mail W) → times same r x (post_all p ms k.link) ≡ bit (on_link same (upd pages p q r).journey x)
+  posted : (ms : List (Mail W)) (q : Page W) → ((x : Mail W) → bit (on_link same q.journey x) ≡ bit (on_link same P.journey x) + listed same x ms) → (r : ℕ) (x : Mail W) → times same r x (post_all p ms k.link) ≡ bit (on_link same (changed pages p q r).journey x)
   posted ms q net r x = let a = times_post same law p r x ms k.link in let c = t.mails r x in let d = net x in grind (arith, facts)
 
   -- it asks
-  pub ask_told : (d : Kind) (f : W → W) → Told same (becomes k b p (opened_seat p (asked d) f (λ _. false)) ((k.board b).entry p) (request d (P.entry b).hint b 0 ∷ []) k.link) (upd pages p (goes P b (asking d (P.entry b).hint 0)))
+  pub ask_told : (d : Kind) (f : W → W) → Told same (becomes k b p (opened_seat p (asked d) f (λ _. false)) ((k.board b).entry p) (request d (P.entry b).hint b 0 ∷ []) k.link) (changed pages p (goes P b (asking d (P.entry b).hint 0)))
   ask_told d f =
       let e = idle p in
       let na = not_awaited in
@@ -39,11 +40,11 @@ module _ {W : Type 0} (same : Mail W → Mail W → Bool) (law : Equality same) 
         waitings = λ x r. grind (arith, facts, t.waitings x r, none_wait r);
         deferrals = λ x. grind (arith, facts, t.deferrals x);
         mails = posted (request d (P.entry b).hint b 0 ∷ []) (goes P b (asking d (P.entry b).hint 0))
-            (λ x. omega (arith, replace same law P.journey (upd P.journey b (asking d (P.entry b).hint 0)) b b absent (just (request d (P.entry b).hint b 0)) (grind (arith, facts)) (grind (arith, facts)) (λ c y ne. grind (arith, facts)) x));
+            (λ x. omega (arith, replace same law P.journey (changed P.journey b (asking d (P.entry b).hint 0)) b b absent (just (request d (P.entry b).hint b 0)) (grind (arith, facts)) (grind (arith, facts)) (λ c y ne. grind (arith, facts)) x));
       }
 
   -- it owns the page and clears the copies of it
-  pub clear_told : (f : W → W) → ((y : ℕ) → has (P.entry b).copies y ≡ true → y < n) → Told same (becomes k b p (opened_seat p (clears 0) f (has (P.entry b).copies)) ((k.board b).entry p) (invalidates n b (P.entry b).copies) k.link) (upd pages p (goes P b (clearing 0 (marks (P.entry b).copies))))
+  pub clear_told : (f : W → W) → ((y : ℕ) → has (P.entry b).copies y ≡ true → y < n) → Told same (becomes k b p (opened_seat p (clears 0) f (has (P.entry b).copies)) ((k.board b).entry p) (invalidates n b (P.entry b).copies) k.link) (changed pages p (goes P b (clearing 0 (marks (P.entry b).copies))))
   clear_told f inside =
       let e = idle p in
       let na = not_awaited in
@@ -59,7 +60,7 @@ module _ {W : Type 0} (same : Mail W → Mail W → Bool) (law : Equality same) 
       }
 
   -- it stores at once
-  pub now_told : (w : W) → Told same (becomes k b p (k.board b).seat (store_entry b w) [] k.link) (upd pages p (stored_at P b w))
+  pub now_told : (w : W) → Told same (becomes k b p (k.board b).seat (store_entry b w) [] k.link) (changed pages p (stored_at P b w))
   now_told w =
       let e = idle p in
       let na = not_awaited in

@@ -1,6 +1,7 @@
 -- Every message that waits is expected, and its delivery is a step of its page.
 use Rattle.std.proofs.Common.{◌≡◌, ℕ, Bool, false, ◌⊎◌, refl, inl, inr, arith}
 use Rattle.std.proofs.lemmas.Bool.{cases_Bool}
+use Rattle.memory.specs.Functions.{changed}
 use Rattle.wire.specs.Bags.{Bag}
 use Rattle.memory.proofs.model.Board.{Kind, Mail, request, copy, grant, invalidate, acknowledge}
 use Rattle.memory.proofs.model.Invariant.{Inv}
@@ -8,7 +9,6 @@ use Rattle.memory.proofs.model.Kit.{just, Post, Kit, none_below}
 use Rattle.memory.proofs.model.Told.{mail_of, Told, Equality}
 use Rattle.memory.proofs.model.Page.{Mark, unmarked, sent, deferred, acked, Journey, home, asking, queued, copied, granted, clearing, Page, busy, loading, mark}
 use Rattle.memory.proofs.model.Sets.{has, Boards}
-use Rattle.memory.proofs.model.Sums.{upd}
 use Rattle.memory.proofs.kept.DeliverySteps.{Sim, Takes}
 use Rattle.memory.proofs.kept.InvalidationsDelivered.{grant_sim, defer_sim, drop_sim, ack_sim}
 use Rattle.memory.proofs.kept.LoadFinishes.{load_sim, load_drop_sim}
@@ -69,4 +69,4 @@ module _ {W : Type 0} (same : Mail W → Mail W → Bool) (law : Equality same) 
       elim (cases_Bool (loading (P.journey x))) [ inl b ↦ defer_sim same law n v k pages t p i rest c x z.0 z.1 e z.2 z.3 b | inr b ↦ drop_sim same law n v k pages t p i rest c x z.0 z.1 e z.2 z.3 b ]
   deliver_sim (acknowledge x c) e =
       let z = acknowledge_is c x (P.journey c) (taken_on_link same law p (acknowledge x c) k.link rest P.journey e (t.mails p)) in
-      elim (cases_Bool (none_below n (upd (k.board c).seat.awaited x false))) [ inl b ↦ last_ack_sim same law n v k pages t p i rest c x z.0 z.1 e z.2 z.3 b | inr b ↦ ack_sim same law n v k pages t p i rest c x z.0 z.1 e z.2 z.3 b ]
+      elim (cases_Bool (none_below n (changed (k.board c).seat.awaited x false))) [ inl b ↦ last_ack_sim same law n v k pages t p i rest c x z.0 z.1 e z.2 z.3 b | inr b ↦ ack_sim same law n v k pages t p i rest c x z.0 z.1 e z.2 z.3 b ]

@@ -1,6 +1,7 @@
 -- A delivery keeps what is kept of a kit, is answered rightly and takes from the work that is left.
 use Rattle.std.proofs.Common.{◌≡◌, ℕ, ◌+◌, ◌-◌, ◌*◌, ◌<◌, ◌≤◌, Bool, true, false, ◌⊎◌, List, sym, refl, ap, ◌∙◌, subst, inl, inr, arith}
 use Rattle.std.proofs.lemmas.Bool.{cases_eq, cases_Bool}
+use Rattle.memory.specs.Functions.{changed}
 use Rattle.wire.specs.Bags.{Bag, ◌&◌}
 use Rattle.memory.proofs.model.Board.{load, store, Entry, Mail}
 use Rattle.memory.proofs.model.Calls.{call_deliver, said_of, said_by, posts_by, kit_by}
@@ -10,7 +11,7 @@ use Rattle.memory.proofs.model.Kit.{absent, just, Stage, closed, asked, clears, 
 use Rattle.memory.proofs.model.Told.{stage_of, Told, Equality}
 use Rattle.memory.proofs.model.Page.{Page, busy, far}
 use Rattle.memory.proofs.model.Steps.{Answer, nothing, read_at, written_at, Delivery, delivers}
-use Rattle.memory.proofs.model.Sums.{upd, sum_to}
+use Rattle.memory.proofs.model.Sums.{sum_to}
 use Rattle.memory.proofs.model.Weights.{weight, Falls}
 use Rattle.memory.proofs.kept.Delivered.{deliver_sim}
 use Rattle.memory.proofs.kept.DeliverySteps.{Tale}
@@ -18,16 +19,16 @@ use Rattle.memory.proofs.kept.KitKept.{Kept, left_of, opens_changed}
 use Rattle.memory.proofs.kept.PageKept.{step_kept}
 use Rattle.memory.proofs.kept.Sets.{facts}
 use Rattle.memory.proofs.kept.Stages.{closed_home, open_is_busy, busy_is_open, op_not_closed, open_here, off_page}
-use Rattle.memory.proofs.kept.Sums.{upd_self_at, sum_less, upd_same, upd_other, upd_both}
+use Rattle.memory.proofs.kept.Sums.{changed_self_at, sum_less, changed_same, changed_other, changed_both}
 use Rattle.memory.proofs.kept.WorkFalls.{delivery_falls}
 
 -- a stage stays open unless the access ends
 stays_open : {W : Type 0} (s z : Stage) (p r : ℕ) (f g : W → W) → (op_by s p f ≡ op_by z r g) ⊎ (op_by s p f ≡ absent) → (s ≡ closed → ⊥) → z ≡ closed → ⊥
 stays_open s z p r f g h ne e = grind arith
 
-module _ {W : Type 0} {same : Mail W → Mail W → Bool} {k : Kit W} {pages : ℕ → Page W} (t : Told same k pages) (b p : ℕ) (s : Seat W) (e : Entry W) (ms : List (Mail W)) (q : Page W) (rest : Bag (Post W)) (u : Told same (becomes k b p s e ms rest) (upd pages p q)) (s_page : s.page ≡ (k.board b).seat.page) where
+module _ {W : Type 0} {same : Mail W → Mail W → Bool} {k : Kit W} {pages : ℕ → Page W} (t : Told same k pages) (b p : ℕ) (s : Seat W) (e : Entry W) (ms : List (Mail W)) (q : Page W) (rest : Bag (Post W)) (u : Told same (becomes k b p s e ms rest) (changed pages p q)) (s_page : s.page ≡ (k.board b).seat.page) where
   abbrev new : ℕ → Board W
-  new = upd k.board b (record { seat = s; entry = upd (k.board b).entry p e })
+  new = changed k.board b (record { seat = s; entry = changed (k.board b).entry p e })
 
   page_same : (x : ℕ) → (new x).seat.page ≡ (k.board x).seat.page
   page_same x = grind (arith, facts)
@@ -35,17 +36,17 @@ module _ {W : Type 0} {same : Mail W → Mail W → Bool} {k : Kit W} {pages : �
   -- on this page, who is open now was so before
   was_open : (op_of s ≡ op_of (k.board b).seat) ⊎ (op_of s ≡ absent) → (x : ℕ) → busy (q.journey x) ≡ true → busy ((pages p).journey x) ≡ true
   was_open ops x on =
-      let after_is : stage_of (q.journey x) ≡ open_on (new x).seat p = ap (λ (g : Page W). stage_of (g.journey x)) (sym (upd_same pages p q)) ∙ u.stages x p in
+      let after_is : stage_of (q.journey x) ≡ open_on (new x).seat p = ap (λ (g : Page W). stage_of (g.journey x)) (sym (changed_same pages p q)) ∙ u.stages x p in
       let now = busy_is_open (q.journey x) (open_on (new x).seat p) after_is on in
       let before = open_is_busy ((pages p).journey x) (open_on (k.board x).seat p) (t.stages x p) in
       before (λ c. elim (cases_eq x b) [
         | inl w ↦ at_b c w now
-        | inr w ↦ now (ap (λ (g : Board W). open_on g.seat p) (upd_other k.board b (record { seat = s; entry = upd (k.board b).entry p e }) x w) ∙ c)
+        | inr w ↦ now (ap (λ (g : Board W). open_on g.seat p) (changed_other k.board b (record { seat = s; entry = changed (k.board b).entry p e }) x w) ∙ c)
       ])
     where
       at_b : open_on (k.board x).seat p ≡ closed → x ≡ b → (open_on (new x).seat p ≡ closed → ⊥) → ⊥
       at_b c w now =
-          let is : new x ≡ record { seat = s; entry = upd (k.board b).entry p e } = ap new w ∙ upd_same k.board b (record { seat = s; entry = upd (k.board b).entry p e }) in
+          let is : new x ≡ record { seat = s; entry = changed (k.board b).entry p e } = ap new w ∙ changed_same k.board b (record { seat = s; entry = changed (k.board b).entry p e }) in
           let open_s : open_on s p ≡ closed → ⊥ = λ z. now (ap (λ (g : Board W). open_on g.seat p) is ∙ z) in
           let c' : open_on (k.board b).seat p ≡ closed = ap (λ y. open_on (k.board y).seat p) (sym w) ∙ c in
           elim (cases_eq p s.page) [
@@ -55,7 +56,7 @@ module _ {W : Type 0} {same : Mail W → Mail W → Bool} {k : Kit W} {pages : �
 
   not_here : (x : ℕ) → ((k.board x).seat.page ≡ p → ⊥) → busy (q.journey x) ≡ false
   not_here x ne =
-      let after_is : stage_of (q.journey x) ≡ open_on (new x).seat p = ap (λ (g : Page W). stage_of (g.journey x)) (sym (upd_same pages p q)) ∙ u.stages x p in
+      let after_is : stage_of (q.journey x) ≡ open_on (new x).seat p = ap (λ (g : Page W). stage_of (g.journey x)) (sym (changed_same pages p q)) ∙ u.stages x p in
       let same_is = page_same x in
       let off : open_on (new x).seat p ≡ closed = off_page (new x).seat p (λ z. ne (sym same_is ∙ z)) in
       ap busy (closed_home (q.journey x) (after_is ∙ off))
@@ -65,24 +66,24 @@ module _ {W : Type 0} {same : Mail W → Mail W → Bool} {k : Kit W} {pages : �
       → (op_of s ≡ op_of (k.board b).seat) ⊎ (op_of s ≡ absent)
       → ((x : ℕ) → busy (q.journey x) ≡ true → far (q.journey x) ≡ far ((pages p).journey x) + requests x ms)
       → ((x : ℕ) → busy (q.journey x) ≡ false → requests x ms ≡ 0)
-      → (x : ℕ) → busy ((upd pages p q (new x).seat.page).journey x) ≡ true → l x + requests x ms ≡ far ((upd pages p q (new x).seat.page).journey x)
+      → (x : ℕ) → busy ((changed pages p q (new x).seat.page).journey x) ≡ true → l x + requests x ms ≡ far ((changed pages p q (new x).seat.page).journey x)
   passed_after l passed_is ops hops calm x =
       rw (page_same x) (elim (cases_eq (k.board x).seat.page p) [
-        | inl h ↦ let z : upd pages p q (k.board x).seat.page ≡ q = ap (upd pages p q) h ∙ upd_same pages p q in
+        | inl h ↦ let z : changed pages p q (k.board x).seat.page ≡ q = ap (changed pages p q) h ∙ changed_same pages p q in
             rw z (λ on. let was = was_open ops x on in let l_is : l x ≡ far ((pages p).journey x) = rw h at (passed_is x) was in omega (arith, hops x on))
-        | inr h ↦ let z : upd pages p q (k.board x).seat.page ≡ pages (k.board x).seat.page = upd_other pages p q (k.board x).seat.page h in
+        | inr h ↦ let z : changed pages p q (k.board x).seat.page ≡ pages (k.board x).seat.page = changed_other pages p q (k.board x).seat.page h in
             rw z (λ on. omega (arith, passed_is x on, calm x (not_here x h)))
       ])
 
   -- nobody's request is passed on more often than may be, whether its access is open or over
-  bound_after : (n : ℕ) (v : ℕ → W) (l : ℕ → ℕ) → ((x : ℕ) → l x ≤ n - 2) → ((r : ℕ) → Inv n (v r) (upd pages p q r))
-      → ((x : ℕ) → busy ((upd pages p q (new x).seat.page).journey x) ≡ true → l x + requests x ms ≡ far ((upd pages p q (new x).seat.page).journey x))
+  bound_after : (n : ℕ) (v : ℕ → W) (l : ℕ → ℕ) → ((x : ℕ) → l x ≤ n - 2) → ((r : ℕ) → Inv n (v r) (changed pages p q r))
+      → ((x : ℕ) → busy ((changed pages p q (new x).seat.page).journey x) ≡ true → l x + requests x ms ≡ far ((changed pages p q (new x).seat.page).journey x))
       → ((x : ℕ) → busy (q.journey x) ≡ false → requests x ms ≡ 0)
       → (x : ℕ) → l x + requests x ms ≤ n - 2
-  bound_after n v l was each passed calm x = elim (cases_Bool (busy ((upd pages p q (new x).seat.page).journey x))) [
+  bound_after n v l was each passed calm x = elim (cases_Bool (busy ((changed pages p q (new x).seat.page).journey x))) [
     | inl on ↦ omega (arith, passed x on, ((each (new x).seat.page).core.ways.askers x on).bound)
     | inr off ↦ elim (cases_eq (k.board x).seat.page p) [
-      | inl h ↦ let here : upd pages p q (new x).seat.page ≡ q = ap (upd pages p q) (page_same x ∙ h) ∙ upd_same pages p q in omega (arith, was x, calm x (sym (ap (λ (g : Page W). busy (g.journey x)) here) ∙ off))
+      | inl h ↦ let here : changed pages p q (new x).seat.page ≡ q = ap (changed pages p q) (page_same x ∙ h) ∙ changed_same pages p q in omega (arith, was x, calm x (sym (ap (λ (g : Page W). busy (g.journey x)) here) ∙ off))
       | inr h ↦ omega (arith, was x, calm x (not_here x h))
     ]
   ]
@@ -107,14 +108,14 @@ module _ {W : Type 0} {same : Mail W → Mail W → Bool} {n : ℕ} {l : Ledger 
   abbrev P : Page W
   P = i.pages p
 
-  each_after : (mem : ℕ → W) (w : W) (q : Page W) → Inv n w q → mem p ≡ w → ((r : ℕ) → (r ≡ p → ⊥) → mem r ≡ l.memory r) → (r : ℕ) → Inv n (mem r) (upd i.pages p q r)
+  each_after : (mem : ℕ → W) (w : W) (q : Page W) → Inv n w q → mem p ≡ w → ((r : ℕ) → (r ≡ p → ⊥) → mem r ≡ l.memory r) → (r : ℕ) → Inv n (mem r) (changed i.pages p q r)
   each_after mem w q inv is others r = elim (cases_eq r p) [
-    | inl h ↦ rw (ap (upd i.pages p q) h ∙ upd_same i.pages p q, ap mem h ∙ is) inv
-    | inr h ↦ rw (upd_other i.pages p q r h, others r h) (i.each r)
+    | inl h ↦ rw (ap (changed i.pages p q) h ∙ changed_same i.pages p q, ap mem h ∙ is) inv
+    | inr h ↦ rw (changed_other i.pages p q r h, others r h) (i.each r)
   ]
 
-  light_after : (q : Page W) → Falls n P q → (r x : ℕ) → weight n ((upd i.pages p q r).journey x) ≤ 3 * n - 4
-  light_after q f r x = upd_both (λ r g. weight n (g.journey x) ≤ 3 * n - 4) i.pages p q r (omega (arith, f.never x, i.light p x)) (λ _. i.light r x)
+  light_after : (q : Page W) → Falls n P q → (r x : ℕ) → weight n ((changed i.pages p q r).journey x) ≤ 3 * n - 4
+  light_after q f r x = changed_both (λ r g. weight n (g.journey x) ≤ 3 * n - 4) i.pages p q r (omega (arith, f.never x, i.light p x)) (λ _. i.light r x)
 
   abbrev Goal : Seat W → Entry W → List (Mail W) → Answer W → Type 0
   Goal s e ms d = (z : Kept same n (after l call_deliver (said_of d) ms) (becomes k b p s e ms rest)) × Good n l call_deliver (said_of d) ms × (left_of z < left_of i)
@@ -133,30 +134,30 @@ module _ {W : Type 0} {same : Mail W → Mail W → Bool} {n : ℕ} {l : Ledger 
       rw ab is
 
   -- the work left falls
-  lighter : {d : Answer W} (s : Seat W) (e : Entry W) (ms : List (Mail W)) (q : Page W) → Delivery P d q → s.page ≡ old.page → Told same (becomes k b p s e ms rest) (upd i.pages p q)
-      → sum_to n (λ x. weight n ((upd i.pages p q (upd k.board b (record { seat = s; entry = upd (k.board b).entry p e }) x).seat.page).journey x)) < sum_to n (λ x. weight n ((i.pages (k.board x).seat.page).journey x))
+  lighter : {d : Answer W} (s : Seat W) (e : Entry W) (ms : List (Mail W)) (q : Page W) → Delivery P d q → s.page ≡ old.page → Told same (becomes k b p s e ms rest) (changed i.pages p q)
+      → sum_to n (λ x. weight n ((changed i.pages p q (changed k.board b (record { seat = s; entry = changed (k.board b).entry p e }) x).seat.page).journey x)) < sum_to n (λ x. weight n ((i.pages (k.board x).seat.page).journey x))
   lighter s e ms q mv sp u =
       let f = delivery_falls (i.each p) mv in
       let w = f.who in
-      let new_weight = λ (x : ℕ). weight n ((upd i.pages p q (upd k.board b (record { seat = s; entry = upd (k.board b).entry p e }) x).seat.page).journey x) in
+      let new_weight = λ (x : ℕ). weight n ((changed i.pages p q (changed k.board b (record { seat = s; entry = changed (k.board b).entry p e }) x).seat.page).journey x) in
       let old_weight = λ (x : ℕ). weight n ((i.pages (k.board x).seat.page).journey x) in
-      let is : (x : ℕ) → new_weight x ≡ weight n ((upd i.pages p q (k.board x).seat.page).journey x) = λ x. ap (λ r. weight n ((upd i.pages p q r).journey x)) (page_same i.told b p s e ms q rest u sp x) in
-      let le : (x : ℕ) → weight n ((upd i.pages p q (k.board x).seat.page).journey x) ≤ old_weight x = λ x. upd_both (λ r g. weight n (g.journey x) ≤ weight n ((i.pages r).journey x)) i.pages p q (k.board x).seat.page (f.never x) (λ _. omega arith) in
+      let is : (x : ℕ) → new_weight x ≡ weight n ((changed i.pages p q (k.board x).seat.page).journey x) = λ x. ap (λ r. weight n ((changed i.pages p q r).journey x)) (page_same i.told b p s e ms q rest u sp x) in
+      let le : (x : ℕ) → weight n ((changed i.pages p q (k.board x).seat.page).journey x) ≤ old_weight x = λ x. changed_both (λ r g. weight n (g.journey x) ≤ weight n ((i.pages r).journey x)) i.pages p q (k.board x).seat.page (f.never x) (λ _. omega arith) in
       let here : (k.board w).seat.page ≡ p = elim (cases_eq (k.board w).seat.page p) [ inl h ↦ h | inr h ↦ let z = ap (weight n) (closed_home (P.journey w) (i.told.stages w p ∙ off_page (k.board w).seat p h)) in absurd (omega (arith, z, f.lighter)) ] in
-      let at_w : upd i.pages p q (k.board w).seat.page ≡ q = ap (upd i.pages p q) here ∙ upd_same i.pages p q in
+      let at_w : changed i.pages p q (k.board w).seat.page ≡ q = ap (changed i.pages p q) here ∙ changed_same i.pages p q in
       let less : new_weight w < old_weight w = omega (arith, is w, ap (λ (g : Page W). weight n (g.journey w)) at_w, f.lighter, ap (λ r. weight n ((i.pages r).journey w)) here) in
       sum_less n w old_weight new_weight (λ x. omega (arith, is x, le x)) f.who_in less
 
-  by_answer : (d : Answer W) (s : Seat W) (e : Entry W) (ms : List (Mail W)) (q : Page W) → Delivery P d q → s.page ≡ old.page → Tale d old s b p P ms → ((x : ℕ) → busy (q.journey x) ≡ true → far (q.journey x) ≡ far (P.journey x) + requests x ms) → ((x : ℕ) → busy (q.journey x) ≡ false → requests x ms ≡ 0) → Told same (becomes k b p s e ms rest) (upd i.pages p q) → Goal s e ms d
+  by_answer : (d : Answer W) (s : Seat W) (e : Entry W) (ms : List (Mail W)) (q : Page W) → Delivery P d q → s.page ≡ old.page → Tale d old s b p P ms → ((x : ℕ) → busy (q.journey x) ≡ true → far (q.journey x) ≡ far (P.journey x) + requests x ms) → ((x : ℕ) → busy (q.journey x) ≡ false → requests x ms ≡ 0) → Told same (becomes k b p s e ms rest) (changed i.pages p q) → Goal s e ms d
   by_answer nothing s e ms q mv sp tale hops calm u =
       let st = step_kept (i.each p) {q = q} (delivers mv) in
       let each = each_after l.memory (l.memory p) q st.0 refl (λ r _. refl) in
       let passed = passed_after i.told b p s e ms q rest u sp l.passed i.passed (inl tale) hops calm in (
         record {
-          pages = upd i.pages p q;
+          pages = changed i.pages p q;
           told = u;
           each = each;
-          opens = λ x. sym (upd_self_at l.opens b (op_of s) (tale ∙ sym (i.opens b)) x) ∙ opens_changed k b (record { seat = s; entry = upd (k.board b).entry p e }) l.opens (op_of s) refl i.opens x;
+          opens = λ x. sym (changed_self_at l.opens b (op_of s) (tale ∙ sym (i.opens b)) x) ∙ opens_changed k b (record { seat = s; entry = changed (k.board b).entry p e }) l.opens (op_of s) refl i.opens x;
           passed = passed;
           light = light_after q (delivery_falls (i.each p) mv);
           bound = bound_after i.told b p s e ms q rest u sp n l.memory l.passed i.bound each passed calm;
@@ -172,10 +173,10 @@ module _ {W : Type 0} {same : Mail W → Mail W → Bool} {n : ℕ} {l : Ledger 
       let each = each_after l.memory (l.memory p) q st.0 refl (λ r _. refl) in
       let passed = passed_after i.told b p s e ms q rest u sp l.passed i.passed (inr tale.2) hops calm in (
         record {
-          pages = upd i.pages p q;
+          pages = changed i.pages p q;
           told = u;
           each = rw mem_is each;
-          opens = λ x. ap (λ z. upd l.opens z absent x) tale.0 ∙ ap (λ z. upd l.opens b z x) (sym tale.2) ∙ opens_changed k b (record { seat = s; entry = upd (k.board b).entry p e }) l.opens (op_of s) refl i.opens x;
+          opens = λ x. ap (λ z. changed l.opens z absent x) tale.0 ∙ ap (λ z. changed l.opens b z x) (sym tale.2) ∙ opens_changed k b (record { seat = s; entry = changed (k.board b).entry p e }) l.opens (op_of s) refl i.opens x;
           passed = passed;
           light = light_after q (delivery_falls (i.each p) mv);
           bound = bound_after i.told b p s e ms q rest u sp n l.memory l.passed i.bound each passed calm;
@@ -186,16 +187,16 @@ module _ {W : Type 0} {same : Mail W → Mail W → Bool} {n : ℕ} {l : Ledger 
   by_answer (written_at a h f) s e ms q mv sp tale hops calm u =
       let st = step_kept (i.each p) {q = q} (delivers mv) in
       let is_open : l.opens a ≡ just (op_store p f) = ap l.opens tale.0 ∙ i.opens b ∙ tale.1 in
-      let mem_is : stored (l.opens a) l.memory ≡ upd l.memory p (f (l.memory p)) = ap (λ z. stored z l.memory) is_open in
+      let mem_is : stored (l.opens a) l.memory ≡ changed l.memory p (f (l.memory p)) = ap (λ z. stored z l.memory) is_open in
       let pg : old.page ≡ p = here_of (op_store p f) p tale.1 (inr (f, refl)) in
-      let memory : ℕ → W = upd l.memory p (f (l.memory p)) in
-      let each = each_after memory (f (l.memory p)) q st.0 (upd_same l.memory p (f (l.memory p))) (λ r ne. upd_other l.memory p (f (l.memory p)) r ne) in
+      let memory : ℕ → W = changed l.memory p (f (l.memory p)) in
+      let each = each_after memory (f (l.memory p)) q st.0 (changed_same l.memory p (f (l.memory p))) (λ r ne. changed_other l.memory p (f (l.memory p)) r ne) in
       let passed = passed_after i.told b p s e ms q rest u sp l.passed i.passed (inr tale.2) hops calm in (
         record {
-          pages = upd i.pages p q;
+          pages = changed i.pages p q;
           told = u;
           each = rw mem_is each;
-          opens = λ x. ap (λ z. upd l.opens z absent x) tale.0 ∙ ap (λ z. upd l.opens b z x) (sym tale.2) ∙ opens_changed k b (record { seat = s; entry = upd (k.board b).entry p e }) l.opens (op_of s) refl i.opens x;
+          opens = λ x. ap (λ z. changed l.opens z absent x) tale.0 ∙ ap (λ z. changed l.opens b z x) (sym tale.2) ∙ opens_changed k b (record { seat = s; entry = changed (k.board b).entry p e }) l.opens (op_of s) refl i.opens x;
           passed = passed;
           light = light_after q (delivery_falls (i.each p) mv);
           bound = bound_after i.told b p s e ms q rest u sp n memory l.passed i.bound each passed calm;

@@ -1,12 +1,13 @@
 -- What it is for the delivery of a message to be a step of its page.
 use Rattle.std.proofs.Common.{◌≡◌, ℕ, ◌+◌, Bool, true, false, List, ap, arith}
+use Rattle.memory.specs.Functions.{changed}
 use Rattle.wire.specs.Bags.{Bag, ◌&◌}
 use Rattle.memory.proofs.model.Board.{Entry, Mail}
 use Rattle.memory.proofs.model.Kit.{Maybe, absent, just, Stage, Seat, Post, Kit, replies, arrive, to, post_all, becomes, arrives, requests, op_load, op_store, op_of}
 use Rattle.memory.proofs.model.Told.{stage_of, mail_of, is_it, on_link, times, Told, Equality}
 use Rattle.memory.proofs.model.Page.{Journey, Page, busy, far}
 use Rattle.memory.proofs.model.Steps.{Answer, nothing, read_at, written_at, Delivery}
-use Rattle.memory.proofs.model.Sums.{upd, bit}
+use Rattle.memory.proofs.model.Sums.{bit}
 use Rattle.memory.proofs.kept.Messages.{listed, cell_change, times_post}
 use Rattle.memory.proofs.kept.Sets.{facts}
 
@@ -33,7 +34,7 @@ pub record Sim {W : Type 0} (same : Mail W → Mail W → Bool) (n : ℕ) (k : K
   pub tale : Tale answer (k.board (to m)).seat seat (to m) p (pages p) posts
   pub hops : (x : ℕ) → busy (page.journey x) ≡ true → far (page.journey x) ≡ far ((pages p).journey x) + requests x posts
   pub calm : (x : ℕ) → busy (page.journey x) ≡ false → requests x posts ≡ 0
-  pub told : Told same (becomes k (to m) p seat entry posts rest) (upd pages p page)
+  pub told : Told same (becomes k (to m) p seat entry posts rest) (changed pages p page)
 
 module _ {W : Type 0} (same : Mail W → Mail W → Bool) (law : Equality same) where
   pub replace : (j l : ℕ → Journey W) (o s : ℕ) (old new : Maybe (Mail W)) → mail_of o (j o) s ≡ old → mail_of o (l o) s ≡ new → ((a y : ℕ) → (a ≡ o → y ≡ s → ⊥) → mail_of a (l a) y ≡ mail_of a (j a) y) → (x : Mail W) → bit (on_link same l x) + bit (is_it same x old) ≡ bit (on_link same j x) + bit (is_it same x new)
@@ -41,7 +42,7 @@ module _ {W : Type 0} (same : Mail W → Mail W → Bool) (law : Equality same) 
 
 module _ {W : Type 0} (same : Mail W → Mail W → Bool) (law : Equality same) (n : ℕ) (k : Kit W) (pages : ℕ → Page W) (t : Told same k pages) (p : ℕ) (rest : Bag (Post W)) where
   -- the messages after a delivery, from what its page's journeys say
-  pub mails_after : (m : Mail W) (ms : List (Mail W)) (q : Page W) → Takes k p m rest → ((x : Mail W) → bit (on_link same q.journey x) + bit (same x m) ≡ bit (on_link same (pages p).journey x) + listed same x ms) → (r : ℕ) (x : Mail W) → times same r x (post_all p ms rest) ≡ bit (on_link same (upd pages p q r).journey x)
+  pub mails_after : (m : Mail W) (ms : List (Mail W)) (q : Page W) → Takes k p m rest → ((x : Mail W) → bit (on_link same q.journey x) + bit (same x m) ≡ bit (on_link same (pages p).journey x) + listed same x ms) → (r : ℕ) (x : Mail W) → times same r x (post_all p ms rest) ≡ bit (on_link same (changed pages p q r).journey x)
   mails_after m ms q e net r x =
       let a = times_post same law p r x ms rest in
       let b = ap (times same r x) e in

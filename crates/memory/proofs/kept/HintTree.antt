@@ -2,12 +2,12 @@
 use Rattle.std.proofs.Common.{◌≡◌, ℕ, ◌+◌, ◌<◌, ◌≤◌, true, false, sym, refl, ap, ◌∙◌, inl, inr, arith}
 use Rattle.std.proofs.lemmas.Bool.Decides.{nat_tests}
 use Rattle.std.proofs.lemmas.Bool.{false_from_ne_true, cases_eq, both_ways}
-use Rattle.memory.proofs.model.Sums.{upd}
+use Rattle.memory.specs.Functions.{changed}
 use Rattle.memory.proofs.model.Tree.{Reach, here, step, Turned, State, Trail, Asker, Inv, opened, passed_on, granted, closed, first}
 use Rattle.memory.proofs.kept.Following.{reach_fixed, keeps, keeps_root, comes, no_cycle}
-use Rattle.memory.proofs.kept.Sums.{upd_other, upd_both, count_more, count_room, sum_zero}
+use Rattle.memory.proofs.kept.Sums.{changed_other, changed_both, count_more, count_room, sum_zero}
 
-turned : (f : ℕ → ℕ) (a u v : ℕ) → f a ≡ u → (u ≡ a → ⊥) → Turned f (upd (upd f a v) u a) a u v
+turned : (f : ℕ → ℕ) (a u v : ℕ) → f a ≡ u → (u ≡ a → ⊥) → Turned f (changed (changed f a v) u a) a u v
 turned f a u v e ne = record { was = e; a_now = grind (arith, nat_tests); u_now = grind (arith, nat_tests); rest = λ x p q. grind (arith, nat_tests) }
 
 -- the place of a request is neither its asker nor a board that passed it on: there is room for two more
@@ -25,20 +25,20 @@ asker_on k t = record {
 }
 
 -- hops changed at one board
-by_board : {n : ℕ} {f : ℕ → ℕ} (hops : ℕ → ℕ) (a h b : ℕ) → Asker n f a h → ((b ≡ a → ⊥) → Asker n f b (hops b)) → Asker n f b (upd hops a h b)
-by_board {n} {f} hops a h b this that = upd_both (λ x k. Asker n f x k) hops a h b this that
+by_board : {n : ℕ} {f : ℕ → ℕ} (hops : ℕ → ℕ) (a h b : ℕ) → Asker n f a h → ((b ≡ a → ⊥) → Asker n f b (hops b)) → Asker n f b (changed hops a h b)
+by_board {n} {f} hops a h b this that = changed_both (λ x k. Asker n f x k) hops a h b this that
 
 fresh : {n : ℕ} {f : ℕ → ℕ} {a : ℕ} → Trail n f a 0
 fresh {n} = record { seen = λ _. false; many = sum_zero n (λ x. 0) (λ x. refl); other = refl; below = λ x e. absurd (both_ways false refl e) }
 
 trail_more : {n : ℕ} {f g : ℕ → ℕ} {a u v h : ℕ} → Turned f g a u v → f u ≡ v → (u ≡ a → ⊥) → u < n → (Reach f a u → ⊥) → Trail n f a h → Trail n g a (h + 1)
 trail_more {n} {g = g} {a = a} {u = u} t at_u ne l out k = record {
-  seen = upd k.seen u true;
+  seen = changed k.seen u true;
   many = omega (arith, count_more n u k.seen l (false_from_ne_true (k.seen u) (λ e. out (k.below u e))), k.many);
-  other = upd_other k.seen u true a (λ e. ne (sym e)) ∙ k.other;
+  other = changed_other k.seen u true a (λ e. ne (sym e)) ∙ k.other;
   below = λ x e. elim (cases_eq x u) [
     | inl p ↦ step {y = a} (ap g p ∙ t.u_now) (here refl)
-    | inr p ↦ keeps t (λ q. ne (sym q)) at_u (k.below x (sym (upd_other k.seen u true x p) ∙ e))
+    | inr p ↦ keeps t (λ q. ne (sym q)) at_u (k.below x (sym (changed_other k.seen u true x p) ∙ e))
   ];
 }
 
@@ -50,7 +50,7 @@ open_kept {n} {s} a i l ne = record {
   tree = i.tree;
   askers = λ b e. by_board s.hops a 0 b
       (record { in_range = l; trail = fresh; bound = omega arith })
-      (λ p. i.askers b (sym (upd_other s.asked a true b p) ∙ e));
+      (λ p. i.askers b (sym (changed_other s.asked a true b p) ∙ e));
 }
 
 pub close_kept : {n : ℕ} {s : State} (a : ℕ) → Inv n s → Inv n (closed s a)
@@ -59,13 +59,13 @@ close_kept {n} {s} a i = record {
   root_fix = i.root_fix;
   inside = i.inside;
   tree = i.tree;
-  askers = λ b e. let ne : b ≡ a → ⊥ = grind (arith, nat_tests) in rw (upd_other s.hops a 0 b ne) (i.askers b (grind (arith, nat_tests)));
+  askers = λ b e. let ne : b ≡ a → ⊥ = grind (arith, nat_tests) in rw (changed_other s.hops a 0 b ne) (i.askers b (grind (arith, nat_tests)));
 }
 
 pub forward_kept : {n : ℕ} {s : State} (a u : ℕ) → Inv n s → s.asked a ≡ true → s.next a ≡ u → (u ≡ a → ⊥) → (u ≡ s.root → ⊥) → s.asked u ≡ false → Inv n (passed_on s a u)
 forward_kept {n} {s} a u i is at ne nr idle =
     let v = s.next u in
-    let g = upd (upd s.next a v) u a in
+    let g = changed (changed s.next a v) u a in
     let t = turned s.next a u v at ne in
     let k = i.askers a is in
     let in_u : u < n = rw at at (i.inside a k.in_range) in

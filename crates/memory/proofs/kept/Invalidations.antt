@@ -1,9 +1,9 @@
 -- An invalidation or an acknowledgement comes: what is kept of the page stays so.
 use Rattle.std.proofs.Common.{◌≡◌, ℕ, true, false, sym, refl, ap, subst, arith}
+use Rattle.memory.specs.Functions.{changed}
 use Rattle.memory.proofs.model.Invariant.{Core}
 use Rattle.memory.proofs.model.Page.{Mark, unmarked, sent, deferred, acked, clearing, Page, awaits, rooted, loading, is_queued}
 use Rattle.memory.proofs.model.Steps.{goes, dropped}
-use Rattle.memory.proofs.model.Sums.{upd}
 use Rattle.memory.proofs.model.Tree as tree
 use Rattle.memory.proofs.kept.HintTree.{state_path}
 use Rattle.memory.proofs.kept.Sets.{facts}
@@ -11,7 +11,7 @@ use Rattle.memory.proofs.kept.Waiting.{told_after}
 
 module _ {W : Type 0} (n : ℕ) (v : W) (p : Page W) (i : Core n v p) where
   -- an invalidation comes, and waits or is done
-  pub defer_core : (c x h : ℕ) (m : ℕ → Mark) → p.journey c ≡ clearing h m → m x ≡ sent → loading (p.journey x) ≡ true → Core n v (goes p c (clearing h (upd m x deferred)))
+  pub defer_core : (c x h : ℕ) (m : ℕ → Mark) → p.journey c ≡ clearing h m → m x ≡ sent → loading (p.journey x) ≡ true → Core n v (goes p c (clearing h (changed m x deferred)))
   defer_core c x h m e is open_load =
       let o = i.holders in
       let t = i.tables in
@@ -57,7 +57,7 @@ module _ {W : Type 0} (n : ℕ) (v : W) (p : Page W) (i : Core n v p) where
         lists = grind (arith, facts, i.lists);
       }
 
-  pub ack_core : (c x y h : ℕ) (m : ℕ → Mark) → p.journey c ≡ clearing h m → m x ≡ acked → awaits (m y) ≡ true → (y ≡ x → ⊥) → Core n v (goes p c (clearing h (upd m x unmarked)))
+  pub ack_core : (c x y h : ℕ) (m : ℕ → Mark) → p.journey c ≡ clearing h m → m x ≡ acked → awaits (m y) ≡ true → (y ≡ x → ⊥) → Core n v (goes p c (clearing h (changed m x unmarked)))
   ack_core c x y h m e is more ne =
       let o = i.holders in
       let t = i.tables in

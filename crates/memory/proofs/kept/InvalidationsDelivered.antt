@@ -1,5 +1,6 @@
 -- The invalidations of a store: a grant with copies out sends them, each waits at a board that loads or is done, and acknowledgements but the last are counted.
 use Rattle.std.proofs.Common.{◌≡◌, ℕ, ◌<◌, Bool, true, false, [], ◌∷◌, refl, ap, ◌∙◌, arith}
+use Rattle.memory.specs.Functions.{changed}
 use Rattle.wire.specs.Bags.{Bag}
 use Rattle.memory.proofs.model.Board.{store, Mail, grant, invalidate, acknowledge, drop_entry, got_grant}
 use Rattle.memory.proofs.model.Invariant.{Holders, Inv}
@@ -8,7 +9,6 @@ use Rattle.memory.proofs.model.Told.{slot, stage_of, Told, Equality}
 use Rattle.memory.proofs.model.Page.{Mark, unmarked, sent, deferred, acked, granted, clearing, Page, awaits, rooted, loading}
 use Rattle.memory.proofs.model.Sets.{has, Boards}
 use Rattle.memory.proofs.model.Steps.{goes, grant_came, dropped, grant_in, defers, drops, acks, nothing, moves}
-use Rattle.memory.proofs.model.Sums.{upd}
 use Rattle.memory.proofs.kept.Below.{none_false}
 use Rattle.memory.proofs.kept.CopySets.{granted_in}
 use Rattle.memory.proofs.kept.DeliverySteps.{Sim, replace, mails_after, Takes, arrives_is, here_is}
@@ -63,7 +63,7 @@ module _ {W : Type 0} (same : Mail W → Mail W → Bool) (law : Equality same) 
         entry = P.entry x;
         posts = [];
         answer = nothing;
-        page = goes P c (clearing h (upd m x deferred));
+        page = goes P c (clearing h (changed m x deferred));
         replied = arrives_is t n p (invalidate c x) (stage_of (P.journey x)) refl ∙ grind (arith, facts);
         moved = moves (defers c x h m at is open_load);
         same_page = refl;
@@ -76,8 +76,8 @@ module _ {W : Type 0} (same : Mail W → Mail W → Bool) (law : Equality same) 
           awaiting = λ y z. grind (arith, facts, t.awaiting y z);
           waitings = λ y r. grind (arith, facts, t.waitings y r);
           deferrals = λ y. grind (arith, facts, t.deferrals y);
-          mails = mails_after same law n k pages t p rest (invalidate c x) [] (goes P c (clearing h (upd m x deferred))) e
-              (replace same law P.journey (upd P.journey c (clearing h (upd m x deferred))) c x (just (invalidate c x)) absent (grind (arith, facts)) (grind (arith, facts)) (λ b y ne. grind (arith, facts)));
+          mails = mails_after same law n k pages t p rest (invalidate c x) [] (goes P c (clearing h (changed m x deferred))) e
+              (replace same law P.journey (changed P.journey c (clearing h (changed m x deferred))) c x (just (invalidate c x)) absent (grind (arith, facts)) (grind (arith, facts)) (λ b y ne. grind (arith, facts)));
         };
       }
 
@@ -104,15 +104,15 @@ module _ {W : Type 0} (same : Mail W → Mail W → Bool) (law : Equality same) 
           waitings = λ y r. grind (arith, facts, t.waitings y r);
           deferrals = λ y. grind (arith, facts, t.deferrals y);
           mails = mails_after same law n k pages t p rest (invalidate c x) (acknowledge x c ∷ []) (dropped P x c h m) e
-              (λ z. omega (arith, replace same law P.journey (upd P.journey c (clearing h (upd m x acked))) c x (just (invalidate c x)) (just (acknowledge x c)) (grind (arith, facts)) (grind (arith, facts)) (λ b y ne. grind (arith, facts)) z));
+              (λ z. omega (arith, replace same law P.journey (changed P.journey c (clearing h (changed m x acked))) c x (just (invalidate c x)) (just (acknowledge x c)) (grind (arith, facts)) (grind (arith, facts)) (λ b y ne. grind (arith, facts)) z));
         };
       }
 
-  pub ack_sim : (c x h : ℕ) (m : ℕ → Mark) → Takes k p (acknowledge x c) rest → P.journey c ≡ clearing h m → m x ≡ acked → none_below n (upd (k.board c).seat.awaited x false) ≡ false → Sim same n k pages p (acknowledge x c) rest
+  pub ack_sim : (c x h : ℕ) (m : ℕ → Mark) → Takes k p (acknowledge x c) rest → P.journey c ≡ clearing h m → m x ≡ acked → none_below n (changed (k.board c).seat.awaited x false) ≡ false → Sim same n k pages p (acknowledge x c) rest
   ack_sim c x h m e at is more =
       let root = o.only c (ap rooted at) in
       let here = here_is t p c (grind arith) in
-      let w = none_false n (upd (k.board c).seat.awaited x false) more in
+      let w = none_false n (changed (k.board c).seat.awaited x false) more in
       let y = w.0 in
       let y_in = w.2 in
       let aw = t.awaiting c y in
@@ -120,11 +120,11 @@ module _ {W : Type 0} (same : Mail W → Mail W → Bool) (law : Equality same) 
       let ne : y ≡ x → ⊥ = λ q. grind (arith, facts) in
       let my : awaits (m y) ≡ true = grind (arith, facts) in
       record {
-        seat = with_awaited (k.board c).seat h (upd (k.board c).seat.awaited x false);
+        seat = with_awaited (k.board c).seat h (changed (k.board c).seat.awaited x false);
         entry = P.entry c;
         posts = [];
         answer = nothing;
-        page = goes P c (clearing h (upd m x unmarked));
+        page = goes P c (clearing h (changed m x unmarked));
         replied = arrives_is t n p (acknowledge x c) (clears h) (ap stage_of at) ∙ grind (arith, facts);
         moved = moves (acks c x y h m at is my ne);
         same_page = refl;
@@ -137,7 +137,7 @@ module _ {W : Type 0} (same : Mail W → Mail W → Bool) (law : Equality same) 
           awaiting = λ y z. grind (arith, facts, t.awaiting y z);
           waitings = λ y r. grind (arith, facts, t.waitings y r);
           deferrals = λ y. grind (arith, facts, t.deferrals y);
-          mails = mails_after same law n k pages t p rest (acknowledge x c) [] (goes P c (clearing h (upd m x unmarked))) e
-              (replace same law P.journey (upd P.journey c (clearing h (upd m x unmarked))) c x (just (acknowledge x c)) absent (grind (arith, facts)) (grind (arith, facts)) (λ b y ne. grind (arith, facts)));
+          mails = mails_after same law n k pages t p rest (acknowledge x c) [] (goes P c (clearing h (changed m x unmarked))) e
+              (replace same law P.journey (changed P.journey c (clearing h (changed m x unmarked))) c x (just (acknowledge x c)) absent (grind (arith, facts)) (grind (arith, facts)) (λ b y ne. grind (arith, facts)));
         };
       }

@@ -1,16 +1,17 @@
 -- What is kept of a kit and its ledger: the kit is told by its pages, and the ledger agrees with them; and the work that is left.
 use Rattle.std.proofs.Common.{◌≡◌, ℕ, ◌-◌, ◌*◌, ◌≤◌, Bool, true, sym, refl, ap, ◌∙◌, inl, inr, arith, []}
 use Rattle.std.proofs.lemmas.Bool.{cases_eq}
+use Rattle.memory.specs.Functions.{changed}
 use Rattle.memory.proofs.model.Board.{Mail}
 use Rattle.memory.proofs.model.Ledgers.{Ledger, unchanged}
 use Rattle.memory.proofs.model.Invariant.{Inv}
 use Rattle.memory.proofs.model.Kit.{Maybe, absent, closed, Board, Kit, Open, op_by, op_of}
 use Rattle.memory.proofs.model.Told.{Told}
 use Rattle.memory.proofs.model.Page.{Page, busy, far}
-use Rattle.memory.proofs.model.Sums.{upd, sum_to}
+use Rattle.memory.proofs.model.Sums.{sum_to}
 use Rattle.memory.proofs.model.Weights.{weight}
 use Rattle.memory.proofs.kept.Stages.{open_is_busy, open_here}
-use Rattle.memory.proofs.kept.Sums.{upd_same, upd_other}
+use Rattle.memory.proofs.kept.Sums.{changed_same, changed_other}
 
 pub record Kept {W : Type 0} (same : Mail W → Mail W → Bool) (n : ℕ) (l : Ledger W) (k : Kit W) : Type 0 where
   pub pages : ℕ → Page W
@@ -30,10 +31,10 @@ pub nothing_new : {W : Type 0} {same : Mail W → Mail W → Bool} {n : ℕ} {l 
 nothing_new {l = l} i = record { pages = i.pages; told = i.told; each = i.each; opens = i.opens; passed = λ x on. omega (arith, i.passed x on); light = i.light; bound = λ x. omega (arith, i.bound x) }
 
 -- one board's open access changed
-pub opens_changed : {W : Type 0} (k : Kit W) (b : ℕ) (z : Board W) (l : ℕ → Maybe (Open W)) (o : Maybe (Open W)) → op_of z.seat ≡ o → ((x : ℕ) → l x ≡ op_of (k.board x).seat) → (x : ℕ) → upd l b o x ≡ op_of (upd k.board b z x).seat
+pub opens_changed : {W : Type 0} (k : Kit W) (b : ℕ) (z : Board W) (l : ℕ → Maybe (Open W)) (o : Maybe (Open W)) → op_of z.seat ≡ o → ((x : ℕ) → l x ≡ op_of (k.board x).seat) → (x : ℕ) → changed l b o x ≡ op_of (changed k.board b z x).seat
 opens_changed k b z l o e is x = elim (cases_eq x b) [
-  | inl w ↦ ap (upd l b o) w ∙ upd_same l b o ∙ sym e ∙ sym (ap (λ (g : Board _). op_of g.seat) (ap (upd k.board b z) w ∙ upd_same k.board b z))
-  | inr w ↦ upd_other l b o x w ∙ is x ∙ sym (ap (λ (g : Board _). op_of g.seat) (upd_other k.board b z x w))
+  | inl w ↦ ap (changed l b o) w ∙ changed_same l b o ∙ sym e ∙ sym (ap (λ (g : Board _). op_of g.seat) (ap (changed k.board b z) w ∙ changed_same k.board b z))
+  | inr w ↦ changed_other l b o x w ∙ is x ∙ sym (ap (λ (g : Board _). op_of g.seat) (changed_other k.board b z x w))
 ]
 
 module _ {W : Type 0} {same : Mail W → Mail W → Bool} {n : ℕ} {l : Ledger W} {k : Kit W} (i : Kept same n l k) where

@@ -1,5 +1,6 @@
 -- A copy arrives and finishes a load; an invalidation that waited for it is then done.
 use Rattle.std.proofs.Common.{◌≡◌, ℕ, Bool, ◌∷◌, sym, refl, ap, ◌∙◌, arith}
+use Rattle.memory.specs.Functions.{changed}
 use Rattle.wire.specs.Bags.{Bag}
 use Rattle.memory.proofs.model.Board.{load, Mail, copy, acknowledge, got_copy, drop_entry, serve_entries, serve_mails}
 use Rattle.memory.proofs.model.Invariant.{Holders, Inv}
@@ -7,13 +8,12 @@ use Rattle.memory.proofs.model.Kit.{absent, just, asked, Post, Kit, replies, vac
 use Rattle.memory.proofs.model.Told.{stage_of, deferral_of, Told, Equality}
 use Rattle.memory.proofs.model.Page.{Mark, unmarked, sent, deferred, acked, home, copied, clearing, Page, busy, far, rooted, mark}
 use Rattle.memory.proofs.model.Steps.{copy_came, copy_dropped, Loaded, copy_in, copy_then_drop, read_at, loads}
-use Rattle.memory.proofs.model.Sums.{upd}
 use Rattle.memory.proofs.kept.DeliverySteps.{Sim, replace, Takes, arrives_is, here_is}
 use Rattle.memory.proofs.kept.Finishing.{finish_told}
 use Rattle.memory.proofs.kept.PageKept.{loaded_core, in_clearing}
 use Rattle.memory.proofs.kept.ServedTold.{changes_calm, serve_list_told, done_asks, done_hops}
 use Rattle.memory.proofs.kept.Sets.{facts}
-use Rattle.memory.proofs.kept.Sums.{upd_same}
+use Rattle.memory.proofs.kept.Sums.{changed_same}
 
 not_deferred : (m : Mark) (r : ℕ) → (m ≡ deferred → ⊥) → deferral_of m r ≡ absent
 not_deferred unmarked r ne = refl
@@ -38,10 +38,10 @@ module _ {W : Type 0} (same : Mail W → Mail W → Bool) (law : Equality same) 
       let l : Loaded P a h w (copy_came P a f w) = copy_in f at calm in
       let q1 = copy_came P a f w in
       let ws : q1.waits a ≡ rs = grind (arith, facts, t.waitings a p) in
-      let s = serve_list_told same law n v a rs q1 (loaded_core i a h w l) (upd_same P.journey a home) ws in
+      let s = serve_list_told same law n v a rs q1 (loaded_core i a h w l) (changed_same P.journey a home) ws in
       let q = s.0 in
       let c = s.3 in
-      let eu : q1.entry a ≡ got_copy (P.entry a) f w = upd_same P.entry a (got_copy (P.entry a) f w) in
+      let eu : q1.entry a ≡ got_copy (P.entry a) f w = changed_same P.entry a (got_copy (P.entry a) f w) in
       let df : (k.board a).seat.deferral ≡ absent = let d = t.deferrals a in let z = not_deferred (mark P a) P.root ne in grind (arith, facts) in
       record {
         seat = vacant (k.board a).seat;
@@ -52,8 +52,8 @@ module _ {W : Type 0} (same : Mail W → Mail W → Bool) (law : Equality same) 
         replied = arrives_is t n p (copy f a h w) (asked load) (ap stage_of at) ∙ ap (finish_load a (k.board a).seat (got_copy (P.entry a) f w) h w) df ∙ ap (λ z. replies (vacant (k.board a).seat) (serve_entries a z rs) (serve_mails a z rs) (read_at a h w)) (sym eu);
         moved = loads {s = q} a h w l s.1;
         same_page = refl;
-        tale = (refl, grind (arith, facts, t.stages a p), refl, ap far (sym at), done_asks {q = q} c (upd_same P.journey a home));
-        hops = λ x on. done_hops P {q = q} c (upd_same P.journey a home) (λ y ne. grind (arith, facts)) x on;
+        tale = (refl, grind (arith, facts, t.stages a p), refl, ap far (sym at), done_asks {q = q} c (changed_same P.journey a home));
+        hops = λ x on. done_hops P {q = q} c (changed_same P.journey a home) (λ y ne. grind (arith, facts)) x on;
         calm = λ x off. changes_calm {q = q} c x off;
         told = finish_told same law n k pages t p rest a (copy f a h w) q1 q (serve_entries a (q1.entry a) rs) (serve_mails a (q1.entry a) rs) (serve_mails a (q1.entry a) rs) e b
             (λ x ne. grind (arith, facts))
@@ -79,12 +79,12 @@ module _ {W : Type 0} (same : Mail W → Mail W → Bool) (law : Equality same) 
       let l : Loaded P a h w (copy_dropped P a f w r g m) = copy_then_drop f r g m at at_r m_is in
       let q1 = copy_dropped P a f w r g m in
       let ws : q1.waits a ≡ rs = grind (arith, facts, t.waitings a p) in
-      let s = serve_list_told same law n v a rs q1 (loaded_core i a h w l) (upd_same (upd P.journey r (clearing g (upd m a acked))) a home) ws in
+      let s = serve_list_told same law n v a rs q1 (loaded_core i a h w l) (changed_same (changed P.journey r (clearing g (changed m a acked))) a home) ws in
       let q = s.0 in
       let c = s.3 in
-      let eu : q1.entry a ≡ drop_entry (got_copy (P.entry a) f w) = upd_same P.entry a (drop_entry (got_copy (P.entry a) f w)) in
+      let eu : q1.entry a ≡ drop_entry (got_copy (P.entry a) f w) = changed_same P.entry a (drop_entry (got_copy (P.entry a) f w)) in
       let df : (k.board a).seat.deferral ≡ just r = let d = t.deferrals a in grind (arith, facts) in
-      let mid = upd P.journey r (clearing g (upd m a acked)) in
+      let mid = changed P.journey r (clearing g (changed m a acked)) in
       let apart : r ≡ a → ⊥ = λ q. grind arith in
       record {
         seat = vacant (k.board a).seat;
@@ -95,8 +95,8 @@ module _ {W : Type 0} (same : Mail W → Mail W → Bool) (law : Equality same) 
         replied = arrives_is t n p (copy f a h w) (asked load) (ap stage_of at) ∙ ap (finish_load a (k.board a).seat (got_copy (P.entry a) f w) h w) df ∙ ap (λ z. replies (vacant (k.board a).seat) (serve_entries a z rs) (acknowledge a r ∷ serve_mails a z rs) (read_at a h w)) (sym eu);
         moved = loads {s = q} a h w l s.1;
         same_page = refl;
-        tale = (refl, grind (arith, facts, t.stages a p), refl, ap far (sym at), omega (arith, done_asks {q = q} c (upd_same mid a home)));
-        hops = λ x on. omega (arith, done_hops P {q = q} c (upd_same mid a home) (λ y ne. grind (arith, facts)) x on);
+        tale = (refl, grind (arith, facts, t.stages a p), refl, ap far (sym at), omega (arith, done_asks {q = q} c (changed_same mid a home)));
+        hops = λ x on. omega (arith, done_hops P {q = q} c (changed_same mid a home) (λ y ne. grind (arith, facts)) x on);
         calm = λ x off. omega (arith, changes_calm {q = q} c x off);
         told = finish_told same law n k pages t p rest a (copy f a h w) q1 q (serve_entries a (q1.entry a) rs) (acknowledge a r ∷ serve_mails a (q1.entry a) rs) (serve_mails a (q1.entry a) rs) e b
             (λ x ne. grind (arith, facts))

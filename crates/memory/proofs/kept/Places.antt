@@ -4,11 +4,12 @@ use Rattle.std.proofs.lemmas.Bool.Decides.{nat_tests}
 use Rattle.std.proofs.lemmas.Bool.{cases_eq, cases_Bool}
 use mathlib.Core.HLevel.{is_prop→PathP}
 use native.Mathlib.Bridge.{le_prop}
+use Rattle.memory.specs.Functions.{changed}
 use Rattle.wire.specs.Bags.{Bag, empty, ◌&◌, either_order, total, size}
 use Rattle.memory.proofs.model.Kit.{Maybe, absent, just}
 use Rattle.memory.proofs.model.Told.{is_it}
-use Rattle.memory.proofs.model.Sums.{upd, sum_to, bit}
-use Rattle.memory.proofs.kept.Sums.{upd_same, upd_other, sum_one}
+use Rattle.memory.proofs.model.Sums.{sum_to, bit}
+use Rattle.memory.proofs.kept.Sums.{changed_same, changed_other, sum_one}
 
 abbrev pub some : {X : Type 0} → Maybe X → Bool
 some absent = false
@@ -25,7 +26,7 @@ module _ {X : Type 0} (same : X → X → Bool) (is : (x y : X) → same x y ≡
   fits_prop b u v = λ i k h r. le_prop (u k h r) (v k h r) i
 
   abbrev less : (ℕ → ℕ → Maybe X) → X → ℕ → ℕ → Maybe X
-  less k x = upd k (f x) (upd (k (f x)) (g x) absent)
+  less k x = changed k (f x) (changed (k (f x)) (g x) absent)
 
   held : (x : X) (c : Maybe X) → 0 < bit (is_it same x c) → c ≡ just x
   held x absent l = absurd (omega arith)
@@ -35,26 +36,26 @@ module _ {X : Type 0} (same : X → X → Bool) (is : (x y : X) → same x y ≡
   one_less k x lf lg e =
       let row = λ (a : ℕ). sum_to n (λ s. bit (some (k a s))) in
       let row' = λ (a : ℕ). sum_to n (λ s. bit (some (less k x a s))) in
-      let outer = sum_one n (f x) row row' lf (λ a ne. ap (λ (z : ℕ → Maybe X). sum_to n (λ s. bit (some (z s)))) (upd_other k (f x) (upd (k (f x)) (g x) absent) a ne)) in
-      let here = ap (λ (z : ℕ → Maybe X). sum_to n (λ s. bit (some (z s)))) (upd_same k (f x) (upd (k (f x)) (g x) absent)) in
-      let inner = sum_one n (g x) (λ s. bit (some (k (f x) s))) (λ s. bit (some (upd (k (f x)) (g x) absent s))) lg (λ s ne. ap (λ c. bit (some c)) (upd_other (k (f x)) (g x) absent s ne)) in
+      let outer = sum_one n (f x) row row' lf (λ a ne. ap (λ (z : ℕ → Maybe X). sum_to n (λ s. bit (some (z s)))) (changed_other k (f x) (changed (k (f x)) (g x) absent) a ne)) in
+      let here = ap (λ (z : ℕ → Maybe X). sum_to n (λ s. bit (some (z s)))) (changed_same k (f x) (changed (k (f x)) (g x) absent)) in
+      let inner = sum_one n (g x) (λ s. bit (some (k (f x) s))) (λ s. bit (some (changed (k (f x)) (g x) absent s))) lg (λ s ne. ap (λ c. bit (some c)) (changed_other (k (f x)) (g x) absent s ne)) in
       let was = ap (λ c. bit (some c)) e in
-      let now = ap (λ c. bit (some c)) (upd_same (k (f x)) (g x) absent) in
+      let now = ap (λ c. bit (some c)) (changed_same (k (f x)) (g x) absent) in
       omega arith
 
   -- what is at x's place after x is taken
   at_place : (k : ℕ → ℕ → Maybe X) (x y : X) → k (f x) (g x) ≡ just x → bit (is_it same y (less k x (f y) (g y))) + bit (same y x) ≡ bit (is_it same y (k (f y) (g y)))
   at_place k x y e = elim (cases_Bool (same y x)) [
     | inl q ↦ let p = is y x q in
-        let z : less k x (f y) (g y) ≡ absent = ap (λ w. less k x (f w) (g w)) p ∙ ap (λ (w : ℕ → Maybe X). w (g x)) (upd_same k (f x) (upd (k (f x)) (g x) absent)) ∙ upd_same (k (f x)) (g x) absent in
+        let z : less k x (f y) (g y) ≡ absent = ap (λ w. less k x (f w) (g w)) p ∙ ap (λ (w : ℕ → Maybe X). w (g x)) (changed_same k (f x) (changed (k (f x)) (g x) absent)) ∙ changed_same (k (f x)) (g x) absent in
         let w : k (f y) (g y) ≡ just x = ap (λ w. k (f w) (g w)) p ∙ e in
         omega (arith, ap (λ c. bit (is_it same y c)) z, ap (λ c. bit (is_it same y c)) w)
     | inr q ↦ elim (cases_eq (f y) (f x)) [
-      | inr ne ↦ omega (arith, ap bit q, ap (λ (w : ℕ → Maybe X). bit (is_it same y (w (g y)))) (upd_other k (f x) (upd (k (f x)) (g x) absent) (f y) ne))
+      | inr ne ↦ omega (arith, ap bit q, ap (λ (w : ℕ → Maybe X). bit (is_it same y (w (g y)))) (changed_other k (f x) (changed (k (f x)) (g x) absent) (f y) ne))
       | inl p ↦ elim (cases_eq (g y) (g x)) [
-        | inr ne ↦ let z : less k x (f y) (g y) ≡ k (f y) (g y) = ap (λ w. less k x w (g y)) p ∙ ap (λ (w : ℕ → Maybe X). w (g y)) (upd_same k (f x) (upd (k (f x)) (g x) absent)) ∙ upd_other (k (f x)) (g x) absent (g y) ne ∙ ap (λ w. k w (g y)) (sym p) in
+        | inr ne ↦ let z : less k x (f y) (g y) ≡ k (f y) (g y) = ap (λ w. less k x w (g y)) p ∙ ap (λ (w : ℕ → Maybe X). w (g y)) (changed_same k (f x) (changed (k (f x)) (g x) absent)) ∙ changed_other (k (f x)) (g x) absent (g y) ne ∙ ap (λ w. k w (g y)) (sym p) in
             omega (arith, ap bit q, ap (λ c. bit (is_it same y c)) z)
-        | inl r ↦ let z : less k x (f y) (g y) ≡ absent = ap (λ w. less k x w (g y)) p ∙ ap (less k x (f x)) r ∙ ap (λ (w : ℕ → Maybe X). w (g x)) (upd_same k (f x) (upd (k (f x)) (g x) absent)) ∙ upd_same (k (f x)) (g x) absent in
+        | inl r ↦ let z : less k x (f y) (g y) ≡ absent = ap (λ w. less k x w (g y)) p ∙ ap (less k x (f x)) r ∙ ap (λ (w : ℕ → Maybe X). w (g x)) (changed_same k (f x) (changed (k (f x)) (g x) absent)) ∙ changed_same (k (f x)) (g x) absent in
             let w : k (f y) (g y) ≡ just x = ap (λ w. k w (g y)) p ∙ ap (k (f x)) r ∙ e in
             omega (arith, ap bit q, ap (λ c. bit (is_it same y c)) z, ap (λ c. bit (is_it same y c)) w)
       ]

@@ -1,10 +1,10 @@
 -- A copy or a grant comes: what is kept of the page stays so.
 use Rattle.std.proofs.Common.{◌≡◌, ℕ, ◌<◌, true, sym, refl, ap, subst, arith}
+use Rattle.memory.specs.Functions.{changed}
 use Rattle.memory.proofs.model.Invariant.{Core}
 use Rattle.memory.proofs.model.Page.{Mark, deferred, acked, home, copied, granted, clearing, Page, busy, rooted, is_queued, mark, view}
 use Rattle.memory.proofs.model.Sets.{has, Boards}
 use Rattle.memory.proofs.model.Steps.{copy_came, copy_dropped, grant_came}
-use Rattle.memory.proofs.model.Sums.{upd}
 use Rattle.memory.proofs.model.Tree as tree
 use Rattle.memory.proofs.kept.CopySets.{granted_in}
 use Rattle.memory.proofs.kept.HintTree.{close_kept, state_path}
@@ -47,7 +47,7 @@ module _ {W : Type 0} (n : ℕ) (v : W) (p : Page W) (i : Core n v p) where
         };
         tables = grind (arith, facts);
         words = grind (arith, facts);
-        told = λ u. others_stay (upd p.journey c (clearing g (upd m a acked))) u a home (p.waits u) (grind (arith, facts, i.lists u a)) (told_after i c (clearing g (upd m a acked)) (ap is_queued k) u);
+        told = λ u. others_stay (changed p.journey c (clearing g (changed m a acked))) u a home (p.waits u) (grind (arith, facts, i.lists u a)) (told_after i c (clearing g (changed m a acked)) (ap is_queued k) u);
         lists = grind (arith, facts, i.lists);
       }
 

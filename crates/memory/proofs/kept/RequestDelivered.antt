@@ -1,5 +1,6 @@
 -- A request arrives: it joins those that wait, where an access is open, or is served.
 use Rattle.std.proofs.Common.{◌≡◌, ℕ, Bool, true, [], ◌∷◌, refl, ap, inl, arith}
+use Rattle.memory.specs.Functions.{changed}
 use Rattle.wire.specs.Bags.{Bag}
 use Rattle.memory.proofs.model.Board.{Kind, Req, Entry, Mail, request, serve_entry, serve_mail}
 use Rattle.memory.proofs.model.Invariant.{Inv}
@@ -7,7 +8,7 @@ use Rattle.memory.proofs.model.Kit.{absent, just, Stage, closed, asked, clears, 
 use Rattle.memory.proofs.model.Told.{mail_of, is_it, stage_of, Told, Equality}
 use Rattle.memory.proofs.model.Page.{home, asking, queued, Page, busy}
 use Rattle.memory.proofs.model.Steps.{served, nothing, moves, joined, joins}
-use Rattle.memory.proofs.model.Sums.{upd, bit}
+use Rattle.memory.proofs.model.Sums.{bit}
 use Rattle.memory.proofs.kept.DeliverySteps.{Sim, replace, mails_after, Takes, arrives_is}
 use Rattle.memory.proofs.kept.ServedTold.{changes_calm, serve_told}
 use Rattle.memory.proofs.kept.Sets.{facts}
@@ -42,7 +43,7 @@ module _ {W : Type 0} (same : Mail W → Mail W → Bool) (law : Equality same) 
           awaiting = λ x y. grind (arith, facts, t.awaiting x y);
           waitings = λ x r. grind (arith, facts, t.waitings x r);
           deferrals = λ x. grind (arith, facts, t.deferrals x);
-          mails = mails_after same law n k pages t p rest (request d u a h) [] (joined (pages p) a u d h) e (replace same law (pages p).journey (upd (pages p).journey a (queued d u h)) a a (just (request d u a h)) absent (grind (arith, facts)) (grind (arith, facts)) (λ b y ne. grind (arith, facts)));
+          mails = mails_after same law n k pages t p rest (request d u a h) [] (joined (pages p) a u d h) e (replace same law (pages p).journey (changed (pages p).journey a (queued d u h)) a a (just (request d u a h)) absent (grind (arith, facts)) (grind (arith, facts)) (λ b y ne. grind (arith, facts)));
         };
       }
 

@@ -2,16 +2,17 @@
 use Rattle.std.proofs.Common.{◌≡◌, ℕ, ◌<◌, true, List, sym, refl, ap, ◌∙◌, subst, arith, [], ◌∷◌, ◌++◌}
 use Rattle.std.proofs.ByRecursion.{All-push}
 use Rattle.std.specs.List.{AllByRecursion as All}
+use Rattle.memory.specs.Functions.{changed}
 use Rattle.memory.proofs.model.Board.{Kind, load, store, Req}
 use Rattle.memory.proofs.model.Invariant.{Core}
 use Rattle.memory.proofs.model.Page.{Journey, home, queued, Page, busy, place, queued_at, view, At, occ, asking, is_queued}
 use Rattle.memory.proofs.model.Steps.{passed_on, copied_to, granted_to, joined}
-use Rattle.memory.proofs.model.Sums.{upd, bit}
+use Rattle.memory.proofs.model.Sums.{bit}
 use Rattle.memory.proofs.model.Tree as tree
 use Rattle.memory.proofs.kept.HintTree.{forward_kept, grant_kept, state_path}
 use Rattle.memory.proofs.kept.Roots.{own, no_owner}
 use Rattle.memory.proofs.kept.Sets.{facts}
-use Rattle.memory.proofs.kept.Sums.{upd_same, upd_both}
+use Rattle.memory.proofs.kept.Sums.{changed_same, changed_both}
 use Rattle.memory.proofs.kept.Waiting.{others_stay, told_after, occ_push}
 
 module _ {W : Type 0} (n : ℕ) (v : W) (p : Page W) (i : Core n v p) where
@@ -26,16 +27,16 @@ module _ {W : Type 0} (n : ℕ) (v : W) (p : Page W) (i : Core n v p) where
         holders = grind (arith, facts);
         tables = grind (arith, facts);
         words = grind (arith, facts);
-        told = λ w. upd_both (λ y xs. All (λ (r : Req). upd p.journey a (queued k u h) r.asker ≡ queued r.kind y r.hops) xs) p.waits u (p.waits u ++ record { asker = a; kind = k; hops = h } ∷ []) w
-            (All-push (λ (r : Req). upd p.journey a (queued k u h) r.asker ≡ queued r.kind u r.hops) (p.waits u) (record { asker = a; kind = k; hops = h }) (told_after i a (queued k u h) (ap is_queued e) u) (upd_same p.journey a (queued k u h)))
+        told = λ w. changed_both (λ y xs. All (λ (r : Req). changed p.journey a (queued k u h) r.asker ≡ queued r.kind y r.hops) xs) p.waits u (p.waits u ++ record { asker = a; kind = k; hops = h } ∷ []) w
+            (All-push (λ (r : Req). changed p.journey a (queued k u h) r.asker ≡ queued r.kind u r.hops) (p.waits u) (record { asker = a; kind = k; hops = h }) (told_after i a (queued k u h) (ap is_queued e) u) (changed_same p.journey a (queued k u h)))
             (λ ne. told_after i a (queued k u h) (ap is_queued e) w);
         lists = λ w b. grind (arith, facts, i.lists w b, i.lists u b, occ_push b (record { asker = a; kind = k; hops = h }) (p.waits u));
       }
 
 -- a request of a at u, which has nothing open; ws: the waiting lists without it
-module _ {W : Type 0} (n : ℕ) (v : W) (p : Page W) (i : Core n v p) (u a h : ℕ) (k : Kind) (ws : ℕ → List Req) (at : At (p.journey a) k u h) (e : p.journey u ≡ home) (rest : (w b : ℕ) → occ b (ws w) ≡ bit (queued_at w (upd p.journey a home b))) (stays : (w : ℕ) → All (λ (r : Req). p.journey r.asker ≡ queued r.kind w r.hops) (ws w)) where
+module _ {W : Type 0} (n : ℕ) (v : W) (p : Page W) (i : Core n v p) (u a h : ℕ) (k : Kind) (ws : ℕ → List Req) (at : At (p.journey a) k u h) (e : p.journey u ≡ home) (rest : (w b : ℕ) → occ b (ws w) ≡ bit (queued_at w (changed p.journey a home b))) (stays : (w : ℕ) → All (λ (r : Req). p.journey r.asker ≡ queued r.kind w r.hops) (ws w)) where
   -- the others in the lists wait as they did
-  lists_after : (t : Journey W) (w : ℕ) → All (λ (r : Req). upd p.journey a t r.asker ≡ queued r.kind w r.hops) (ws w)
+  lists_after : (t : Journey W) (w : ℕ) → All (λ (r : Req). changed p.journey a t r.asker ≡ queued r.kind w r.hops) (ws w)
   lists_after t w = others_stay p.journey w a t (ws w) (grind (arith, facts, rest w a)) (stays w)
 
   at_busy : busy (p.journey a) ≡ true

@@ -2,6 +2,7 @@
 use Rattle.std.proofs.Common.{◌≡◌, ℕ, ◌+◌, Bool, true, false, List, [], ◌∷◌, refl, ap, ◌∙◌, inl, inr, arith}
 use Rattle.std.proofs.lemmas.Bool.{cases_eq}
 use Rattle.std.specs.List.{AllByRecursion as All}
+use Rattle.memory.specs.Functions.{changed}
 use Rattle.memory.proofs.model.Board.{Kind, load, store, Req, Entry, Mail, request, copy, grant, serve_entry, serve_mail, serve_entries, serve_mails}
 use Rattle.memory.proofs.model.Invariant.{Core}
 use Rattle.memory.proofs.model.Kit.{Maybe, absent, just, requests}
@@ -9,18 +10,18 @@ use Rattle.memory.proofs.model.Told.{mail_of, is_it, stage_of, deferral_of, on_l
 use Rattle.memory.proofs.model.Page.{Journey, home, asking, queued, copied, granted, Page, busy, far, queued_at, mark_of, mark, At, occ}
 use Rattle.memory.proofs.model.Sets.{put}
 use Rattle.memory.proofs.model.Steps.{passed_on, copied_to, granted_to, Serves, passes, copies_it, grants, Serving, empty, one}
-use Rattle.memory.proofs.model.Sums.{upd, bit}
+use Rattle.memory.proofs.model.Sums.{bit}
 use Rattle.memory.proofs.kept.DeliverySteps.{replace}
 use Rattle.memory.proofs.kept.Messages.{listed}
 use Rattle.memory.proofs.kept.Requests.{owner as owner_root}
 use Rattle.memory.proofs.kept.ServedLists.{serves_one}
 use Rattle.memory.proofs.kept.Sets.{facts}
-use Rattle.memory.proofs.kept.Sums.{upd_same}
+use Rattle.memory.proofs.kept.Sums.{changed_same}
 use Rattle.memory.proofs.kept.Waiting.{popped, others_told}
 
 -- what serving at u changes: u's entry and the messages; the stages, the marks and the deferrals stay
 pub record Changes {W : Type 0} (same : Mail W → Mail W → Bool) (p q : Page W) (u : ℕ) (e : Entry W) (old : Maybe (Mail W)) (ms : List (Mail W)) : Type 0 where
-  pub entry : (x : ℕ) → q.entry x ≡ upd p.entry u e x
+  pub entry : (x : ℕ) → q.entry x ≡ changed p.entry u e x
   pub stage : (x : ℕ) → stage_of (q.journey x) ≡ stage_of (p.journey x)
   pub marks : (x y : ℕ) → mark_of (q.journey x) y ≡ mark_of (p.journey x) y
   pub deferral : (x : ℕ) → deferral_of (mark q x) q.root ≡ deferral_of (mark p x) p.root
@@ -39,7 +40,7 @@ done_hops g {u = u} c home_is others x on =
     let ne : x ≡ u → ⊥ = λ s. let z = c.stage u in grind arith in
     omega (arith, c.hops x, others x ne)
 
-module _ {W : Type 0} (same : Mail W → Mail W → Bool) (law : Equality same) (n : ℕ) (v : W) (p : Page W) (i : Core n v p) (u : ℕ) (r : Req) (ws : ℕ → List Req) (e : p.journey u ≡ home) (at : At (p.journey r.asker) r.kind u r.hops) (rest : (w b : ℕ) → occ b (ws w) ≡ bit (queued_at w (upd p.journey r.asker home b))) (stays : (w : ℕ) → All (λ (r : Req). p.journey r.asker ≡ queued r.kind w r.hops) (ws w)) where
+module _ {W : Type 0} (same : Mail W → Mail W → Bool) (law : Equality same) (n : ℕ) (v : W) (p : Page W) (i : Core n v p) (u : ℕ) (r : Req) (ws : ℕ → List Req) (e : p.journey u ≡ home) (at : At (p.journey r.asker) r.kind u r.hops) (rest : (w b : ℕ) → occ b (ws w) ≡ bit (queued_at w (changed p.journey r.asker home b))) (stays : (w : ℕ) → All (λ (r : Req). p.journey r.asker ≡ queued r.kind w r.hops) (ws w)) where
   abbrev a : ℕ
   a = r.asker
 
@@ -47,11 +48,11 @@ module _ {W : Type 0} (same : Mail W → Mail W → Bool) (law : Equality same) 
   old = mail_of a (p.journey a) a
 
   -- the messages, where a's journey goes on with another
-  one_net : (t : Journey W) (m : Mail W) → (d : Mail W) → d ≡ m → mail_of a t a ≡ just m → ((y : ℕ) → (y ≡ a → ⊥) → mail_of a t y ≡ absent) → (x : Mail W) → bit (on_link same (upd p.journey a t) x) + bit (is_it same x old) ≡ bit (on_link same p.journey x) + listed same x (d ∷ [])
+  one_net : (t : Journey W) (m : Mail W) → (d : Mail W) → d ≡ m → mail_of a t a ≡ just m → ((y : ℕ) → (y ≡ a → ⊥) → mail_of a t y ≡ absent) → (x : Mail W) → bit (on_link same (changed p.journey a t) x) + bit (is_it same x old) ≡ bit (on_link same p.journey x) + listed same x (d ∷ [])
   one_net t m d same_mail is none_else x =
       omega (
         arith,
-        replace same law p.journey (upd p.journey a t) a a old (just m) refl (grind (arith, facts)) (λ b y ne. grind (arith, facts, none_else y)) x,
+        replace same law p.journey (changed p.journey a t) a a old (just m) refl (grind (arith, facts)) (λ b y ne. grind (arith, facts, none_else y)) x,
         ap (λ z. bit (same x z)) same_mail,
       )
 
@@ -102,7 +103,7 @@ module _ {W : Type 0} (same : Mail W → Mail W → Bool) (law : Equality same) 
       )
 
 -- a whole waiting list, as the board serves it
-pub serve_list_told : {W : Type 0} (same : Mail W → Mail W → Bool) (law : Equality same) (n : ℕ) (v : W) (u : ℕ) (rs : List Req) (p : Page W) → Core n v p → p.journey u ≡ home → p.waits u ≡ rs → (q : Page W) × Serving u p q × ((x : ℕ) → q.waits x ≡ upd p.waits u [] x) × Changes same p q u (serve_entries u (p.entry u) rs) absent (serve_mails u (p.entry u) rs)
+pub serve_list_told : {W : Type 0} (same : Mail W → Mail W → Bool) (law : Equality same) (n : ℕ) (v : W) (u : ℕ) (rs : List Req) (p : Page W) → Core n v p → p.journey u ≡ home → p.waits u ≡ rs → (q : Page W) × Serving u p q × ((x : ℕ) → q.waits x ≡ changed p.waits u [] x) × Changes same p q u (serve_entries u (p.entry u) rs) absent (serve_mails u (p.entry u) rs)
 serve_list_told same law n v u [] p i e is = (
   p,
   empty is,
@@ -117,14 +118,14 @@ serve_list_told same law n v u [] p i e is = (
   },
 )
 serve_list_told same law n v u (r ∷ rs) p i e is =
-    let ws = upd p.waits u rs in
+    let ws = changed p.waits u rs in
     let at : p.journey r.asker ≡ queued r.kind u r.hops = (rw is at (i.told u)).0 in
     let one_of_lem = serve_told same law n v p i u r ws e (inr at) (popped i u r rs is) (others_told i u r rs is) in
     let q = one_of_lem.0 in
     let c = one_of_lem.3 in
     let s = serves_one i u r.asker ws e (popped i u r rs is) (others_told i u r rs is) one_of_lem.1 in
-    let left : q.waits u ≡ rs = ap (λ w. w u) one_of_lem.2 ∙ upd_same p.waits u rs in
-    let eu : q.entry u ≡ serve_entry u (p.entry u) r = c.entry u ∙ upd_same p.entry u (serve_entry u (p.entry u) r) in
+    let left : q.waits u ≡ rs = ap (λ w. w u) one_of_lem.2 ∙ changed_same p.waits u rs in
+    let eu : q.entry u ≡ serve_entry u (p.entry u) r = c.entry u ∙ changed_same p.entry u (serve_entry u (p.entry u) r) in
     let all = serve_list_told same law n v u rs q s.core s.still left in
     let d = all.3 in
     let was_none : mail_of r.asker (p.journey r.asker) r.asker ≡ absent = ap (λ t. mail_of r.asker t r.asker) at in (

@@ -2,21 +2,22 @@
 use Rattle.std.proofs.Common.{◌≡◌, ℕ, zero, suc, ◌+◌, ◌*◌, ◌<◌, ◌≤◌, Bool, true, false, eqb, sym, refl, ap, ◌∙◌, inl, inr, arith}
 use Rattle.std.proofs.lemmas.Bool.Decides.{nat_tests}
 use Rattle.std.proofs.lemmas.Bool.{cases_eq, cond-true, cond-false, eq-eqb, ne_eqb}
-use Rattle.memory.proofs.model.Sums.{upd, sum_to, bit, count}
+use Rattle.memory.specs.Functions.{changed}
+use Rattle.memory.proofs.model.Sums.{sum_to, bit, count}
 
-pub upd_same : {X : Type 0} (f : ℕ → X) (i : ℕ) (v : X) → upd f i v i ≡ v
-upd_same f i v = cond-true (eqb i i) v (f i) (eq-eqb i i refl)
+pub changed_same : {X : Type 0} (f : ℕ → X) (i : ℕ) (v : X) → changed f i v i ≡ v
+changed_same f i v = cond-true (eqb i i) v (f i) (eq-eqb i i refl)
 
-pub upd_other : {X : Type 0} (f : ℕ → X) (i : ℕ) (v : X) (x : ℕ) → (x ≡ i → ⊥) → upd f i v x ≡ f x
-upd_other f i v x ne = cond-false (eqb x i) v (f x) (ne_eqb x i ne)
+pub changed_other : {X : Type 0} (f : ℕ → X) (i : ℕ) (v : X) (x : ℕ) → (x ≡ i → ⊥) → changed f i v x ≡ f x
+changed_other f i v x ne = cond-false (eqb x i) v (f x) (ne_eqb x i ne)
 
 -- what holds of each board, after a change at one
-pub upd_both : {X : Type 0} (P : ℕ → X → Type 0) (f : ℕ → X) (i : ℕ) (v : X) (x : ℕ) → P i v → ((x ≡ i → ⊥) → P x (f x)) → P x (upd f i v x)
-upd_both P f i v x this that = elim (cases_eq x i) [ inl p ↦ rw (p, upd_same f i v) this | inr p ↦ rw (upd_other f i v x p) (that p) ]
+pub changed_both : {X : Type 0} (P : ℕ → X → Type 0) (f : ℕ → X) (i : ℕ) (v : X) (x : ℕ) → P i v → ((x ≡ i → ⊥) → P x (f x)) → P x (changed f i v x)
+changed_both P f i v x this that = elim (cases_eq x i) [ inl p ↦ rw (p, changed_same f i v) this | inr p ↦ rw (changed_other f i v x p) (that p) ]
 
 -- the value that is there already
-pub upd_self_at : {X : Type 0} (f : ℕ → X) (b : ℕ) (v : X) → v ≡ f b → (x : ℕ) → upd f b v x ≡ f x
-upd_self_at f b v e x = grind (arith, nat_tests)
+pub changed_self_at : {X : Type 0} (f : ℕ → X) (b : ℕ) (v : X) → v ≡ f b → (x : ℕ) → changed f b v x ≡ f x
+changed_self_at f b v e x = grind (arith, nat_tests)
 
 sum_same : (n : ℕ) (f g : ℕ → ℕ) → ((x : ℕ) → x < n → g x ≡ f x) → sum_to n g ≡ sum_to n f
 sum_same zero f g h = refl
@@ -63,13 +64,13 @@ count_le zero p = omega arith
 count_le (suc n) p = grind (arith, count_le n p)
 
 -- one more number counted
-pub count_more : (n i : ℕ) (p : ℕ → Bool) → i < n → p i ≡ false → count n (upd p i true) ≡ count n p + 1
+pub count_more : (n i : ℕ) (p : ℕ → Bool) → i < n → p i ≡ false → count n (changed p i true) ≡ count n p + 1
 count_more n i p l e =
-    omega (arith, ap bit e, ap bit (upd_same p i true), sum_one n i (λ x. bit (p x)) (λ x. bit (upd p i true x)) l (λ x ne. ap bit (upd_other p i true x ne)))
+    omega (arith, ap bit e, ap bit (changed_same p i true), sum_one n i (λ x. bit (p x)) (λ x. bit (changed p i true x)) l (λ x ne. ap bit (changed_other p i true x ne)))
 
 -- a number that is not counted leaves room for one, and two leave room for two
 pub count_room_one : (n i : ℕ) (c : ℕ → Bool) → i < n → c i ≡ false → count n c + 1 ≤ n
-count_room_one n i c l e = omega (arith, count_more n i c l e, count_le n (upd c i true))
+count_room_one n i c l e = omega (arith, count_more n i c l e, count_le n (changed c i true))
 
 pub count_room : (n i j : ℕ) (p : ℕ → Bool) → i < n → j < n → (i ≡ j → ⊥) → p i ≡ false → p j ≡ false → count n p + 2 ≤ n
-count_room n i j p l k ne e d = omega (arith, count_more n i p l e, count_more n j (upd p i true) k (upd_other p i true j (λ q. ne (sym q)) ∙ d), count_le n (upd (upd p i true) j true))
+count_room n i j p l k ne e d = omega (arith, count_more n i p l e, count_more n j (changed p i true) k (changed_other p i true j (λ q. ne (sym q)) ∙ d), count_le n (changed (changed p i true) j true))

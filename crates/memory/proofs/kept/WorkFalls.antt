@@ -2,12 +2,13 @@
 use Rattle.std.proofs.Common.{◌≡◌, ℕ, zero, suc, ◌+◌, ◌*◌, ◌<◌, ◌≤◌, true, false, List, refl, ap, arith}
 use Rattle.std.proofs.lemmas.Bool.{cases_Bool}
 use Rattle.std.specs.List.{AllByRecursion as All}
+use Rattle.memory.specs.Functions.{changed}
 use Rattle.memory.proofs.model.Board.{Kind, load, store, Req}
 use Rattle.memory.proofs.model.Invariant.{Holders, Core, Inv}
 use Rattle.memory.proofs.model.Page.{Mark, unmarked, deferred, acked, home, asking, queued, clearing, Page, awaits, busy, far, rooted, queued_at, At, occ, marks}
 use Rattle.memory.proofs.model.Sets.{has, put, Boards}
 use Rattle.memory.proofs.model.Steps.{copy_came, copy_dropped, stored_at, Serves, passes, copies_it, grants, Serving, empty, one, Call, ask_load, ask_store, clear, Move, joins, served, grant_in, defers, drops, acks, Loaded, copy_in, copy_then_drop, Stores, grant_free, last_ack, Answer, Delivery, moves, loads, stores}
-use Rattle.memory.proofs.model.Sums.{upd, bit, sum_to, count}
+use Rattle.memory.proofs.model.Sums.{bit, sum_to, count}
 use Rattle.memory.proofs.model.Weights.{mark_weight, weight, NoneHeavier, Falls, Opens}
 use Rattle.memory.proofs.kept.CopySets.{copies_in}
 use Rattle.memory.proofs.kept.PageKept.{loaded_core, ready_core, stores_ready}
@@ -15,12 +16,12 @@ use Rattle.memory.proofs.kept.Requests.{asker_in, owner}
 use Rattle.memory.proofs.kept.Roots.{no_access, own}
 use Rattle.memory.proofs.kept.ServedLists.{serves_one}
 use Rattle.memory.proofs.kept.Sets.{facts}
-use Rattle.memory.proofs.kept.Sums.{count_room_one, upd_same, upd_other, sum_one, count_room}
+use Rattle.memory.proofs.kept.Sums.{count_room_one, changed_same, changed_other, sum_one, count_room}
 use Rattle.memory.proofs.kept.Waiting.{popped, others_told}
 
 -- one mark changed
-mark_weight_one : (n x : ℕ) (m : ℕ → Mark) (t : Mark) → x < n → sum_to n (λ y. mark_weight (upd m x t y)) + mark_weight (m x) ≡ sum_to n (λ y. mark_weight (m y)) + mark_weight t
-mark_weight_one n x m t l = omega (arith, sum_one n x (λ y. mark_weight (m y)) (λ y. mark_weight (upd m x t y)) l (λ y ne. ap mark_weight (upd_other m x t y ne)), ap mark_weight (upd_same m x t))
+mark_weight_one : (n x : ℕ) (m : ℕ → Mark) (t : Mark) → x < n → sum_to n (λ y. mark_weight (changed m x t y)) + mark_weight (m x) ≡ sum_to n (λ y. mark_weight (m y)) + mark_weight t
+mark_weight_one n x m t l = omega (arith, sum_one n x (λ y. mark_weight (m y)) (λ y. mark_weight (changed m x t y)) l (λ y ne. ap mark_weight (changed_other m x t y ne)), ap mark_weight (changed_same m x t))
 
 mark_weight_marks : (n : ℕ) (c : Boards) → sum_to n (λ y. mark_weight (marks c y)) ≡ 2 * count n (has c)
 mark_weight_marks zero c = refl
@@ -28,7 +29,7 @@ mark_weight_marks (suc n) c = grind (arith, mark_weight_marks n c, cases_Bool (h
 
 module _ {W : Type 0} where
   -- a request of a, served: no journey gets heavier, and where it was on its way a's gets lighter
-  module _ {n : ℕ} {v : W} {p : Page W} (i : Core n v p) (u a : ℕ) (ws : ℕ → List Req) (e : p.journey u ≡ home) (rest : (w b : ℕ) → occ b (ws w) ≡ bit (queued_at w (upd p.journey a home b))) (stays : (w : ℕ) → All (λ (r : Req). p.journey r.asker ≡ queued r.kind w r.hops) (ws w)) where
+  module _ {n : ℕ} {v : W} {p : Page W} (i : Core n v p) (u a : ℕ) (ws : ℕ → List Req) (e : p.journey u ≡ home) (rest : (w b : ℕ) → occ b (ws w) ≡ bit (queued_at w (changed p.journey a home b))) (stays : (w : ℕ) → All (λ (r : Req). p.journey r.asker ≡ queued r.kind w r.hops) (ws w)) where
     bound : (k : Kind) (h : ℕ) → At (p.journey a) k u h → h + 2 ≤ n
     bound k h at = let b : busy (p.journey a) ≡ true = grind arith in let f : far (p.journey a) ≡ h = grind arith in omega (arith, (i.ways.askers a b).bound)
 
@@ -53,8 +54,8 @@ module _ {W : Type 0} where
   serving_light : {n : ℕ} {v : W} (u : ℕ) {p s : Page W} → Core n v p → p.journey u ≡ home → Serving u p s → NoneHeavier n p s
   serving_light u i e (empty _) = λ x. omega arith
   serving_light {n} {v} u {p} i e (one {q = q} {s = s} r rest is this more) =
-      let k = serves_one i u r.asker (upd p.waits u rest) e (popped i u r rest is) (others_told i u r rest is) this in
-      let l = serves_light i u r.asker (upd p.waits u rest) e (popped i u r rest is) (others_told i u r rest is) this in
+      let k = serves_one i u r.asker (changed p.waits u rest) e (popped i u r rest is) (others_told i u r rest is) this in
+      let l = serves_light i u r.asker (changed p.waits u rest) e (popped i u r rest is) (others_told i u r rest is) this in
       let m = serving_light u k.core k.still more in
       λ x. omega (arith, l x, m x)
 
@@ -69,7 +70,7 @@ module _ {W : Type 0} where
     marked_in c x h m e is = let r = o.only c (ap rooted e) in grind (arith, o.marked x)
 
     -- one mark of a clearing board gets lighter
-    mark_falls : (c x h : ℕ) (m : ℕ → Mark) (t : Mark) (q : Page W) → p.journey c ≡ clearing h m → awaits (m x) ≡ true → mark_weight t < mark_weight (m x) → ((y : ℕ) → q.journey y ≡ upd p.journey c (clearing h (upd m x t)) y) → Falls n p q
+    mark_falls : (c x h : ℕ) (m : ℕ → Mark) (t : Mark) (q : Page W) → p.journey c ≡ clearing h m → awaits (m x) ≡ true → mark_weight t < mark_weight (m x) → ((y : ℕ) → q.journey y ≡ changed p.journey c (clearing h (changed m x t)) y) → Falls n p q
     mark_falls c x h m t q e is less q_is =
         let w = mark_weight_one n x m t (marked_in c x h m e is) in
         record { never = λ y. grind (arith, facts, q_is y); who = c; who_in = in_range c (ap busy e); lighter = grind (arith, facts, q_is c) }
@@ -79,7 +80,7 @@ module _ {W : Type 0} where
         let b = (i.core.ways.askers a (ap busy e)).bound in
         record { never = λ x. grind (arith, facts); who = a; who_in = in_range a (ap busy e); lighter = grind (arith, facts) }
     move_falls (served {q} a u h k e is this) =
-        let rest : (w b : ℕ) → occ b (p.waits w) ≡ bit (queued_at w (upd p.journey a home b)) = λ w b. grind (arith, facts, i.core.lists w b) in
+        let rest : (w b : ℕ) → occ b (p.waits w) ≡ bit (queued_at w (changed p.journey a home b)) = λ w b. grind (arith, facts, i.core.lists w b) in
         record {
           never = serves_light i.core u a p.waits is rest i.core.told this;
           who = a;

@@ -1,10 +1,11 @@
 -- A kit of boards over a bag of messages, and what a board does with a message.
 use Rattle.std.specs.Prelude.{ℕ, zero, suc, ◌+◌, Bool, true, false, cond, List, [], ◌∷◌, ◌++◌, ◌==◌}
+use Rattle.memory.specs.Functions.{changed}
 use Rattle.wire.specs.Bags.{Bag, ◌&◌}
 use Rattle.memory.proofs.model.Board.{Kind, load, store, is_load, Req, Entry, Mail, request, copy, grant, invalidate, acknowledge, got_copy, drop_entry, store_entry, got_grant, serve_entry, serve_mail, serve_entries, serve_mails}
 use Rattle.memory.proofs.model.Sets.{has, Boards}
 use Rattle.memory.proofs.model.Steps.{Answer, nothing, read_at, written_at}
-use Rattle.memory.proofs.model.Sums.{upd, bit}
+use Rattle.memory.proofs.model.Sums.{bit}
 
 pub data Maybe (X : Type 0) : Type 0 where
   absent : Maybe X
@@ -97,7 +98,7 @@ module _ {W : Type 0} where
   arrive n b s e (acknowledge f t) (asked k) = refused
   arrive n b s e (acknowledge f t) (clears h) =
       cond (s.awaited f)
-      (cond (none_below n (upd s.awaited f false)) (finish b s h e.words) (replies (with_awaited s h (upd s.awaited f false)) e [] nothing))
+      (cond (none_below n (changed s.awaited f false)) (finish b s h e.words) (replies (with_awaited s h (changed s.awaited f false)) e [] nothing))
       refused
 
   abbrev pub to : Mail W → ℕ
@@ -114,7 +115,7 @@ module _ {W : Type 0} where
 
   abbrev pub becomes : Kit W → ℕ → ℕ → Seat W → Entry W → List (Mail W) → Bag (Post W) → Kit W
   becomes k b p s e ms rest = record {
-    board = upd k.board b (record { seat = s; entry = upd (k.board b).entry p e });
+    board = changed k.board b (record { seat = s; entry = changed (k.board b).entry p e });
     link = post_all p ms rest;
   }
 

@@ -1,8 +1,9 @@
 -- The ledger of a kit's calls and of what they say, and whether an answer is right by it.
 use Rattle.std.specs.Prelude.{◌≡◌, ℕ, ◌+◌, ◌-◌, ◌≤◌, Bool, true, false, List}
+use Rattle.memory.specs.Functions.{changed}
 use Rattle.memory.proofs.model.Board.{Mail}
 use Rattle.memory.proofs.model.Kit.{Maybe, absent, just, requests, Open, op_load, op_store}
-use Rattle.memory.proofs.model.Sums.{upd, sum_to, bit}
+use Rattle.memory.proofs.model.Sums.{sum_to, bit}
 use Rattle.memory.proofs.model.Calls.{Order, call_load, call_store, call_deliver, Said, quiet, moved, opened, answered, finished}
 
 -- what a history says: the memory, the open accesses and how often their requests were passed on
@@ -15,13 +16,13 @@ module _ {W : Type 0} where
   abbrev pub stored : Maybe (Open W) → (ℕ → W) → ℕ → W
   stored absent mem = mem
   stored (just (op_load p)) mem = mem
-  stored (just (op_store p f)) mem = upd mem p (f (mem p))
+  stored (just (op_store p f)) mem = changed mem p (f (mem p))
 
   abbrev pub more_passed : Ledger W → List (Mail W) → ℕ → ℕ
   more_passed l ms x = l.passed x + requests x ms
 
   abbrev pub opening : Ledger W → ℕ → Open W → List (Mail W) → Ledger W
-  opening l b o ms = record { memory = l.memory; opens = upd l.opens b (just o); passed = upd (more_passed l ms) b (requests b ms - 1) }
+  opening l b o ms = record { memory = l.memory; opens = changed l.opens b (just o); passed = changed (more_passed l ms) b (requests b ms - 1) }
 
   abbrev pub unchanged : Ledger W → List (Mail W) → Ledger W
   unchanged l ms = record { memory = l.memory; opens = l.opens; passed = more_passed l ms }
@@ -35,9 +36,9 @@ module _ {W : Type 0} where
   after l (call_store b p f) opened ms = opening l b (op_store p f) ms
   after l (call_store b p f) quiet ms = unchanged l ms
   after l (call_store b p f) moved ms = unchanged l ms
-  after l (call_store b p f) (answered w) ms = record { memory = upd l.memory p (f (l.memory p)); opens = l.opens; passed = more_passed l ms }
+  after l (call_store b p f) (answered w) ms = record { memory = changed l.memory p (f (l.memory p)); opens = l.opens; passed = more_passed l ms }
   after l (call_store b p f) (finished a w h) ms = unchanged l ms
-  after l call_deliver (finished a w h) ms = record { memory = stored (l.opens a) l.memory; opens = upd l.opens a absent; passed = more_passed l ms }
+  after l call_deliver (finished a w h) ms = record { memory = stored (l.opens a) l.memory; opens = changed l.opens a absent; passed = more_passed l ms }
   after l call_deliver quiet ms = unchanged l ms
   after l call_deliver moved ms = unchanged l ms
   after l call_deliver opened ms = unchanged l ms

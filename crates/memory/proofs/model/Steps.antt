@@ -1,9 +1,9 @@
 -- What may happen to a page: each step as the tables and journeys before and after it, and what it answers.
 use Rattle.std.specs.Prelude.{◌≡◌, ℕ, ◌+◌, ◌-◌, ◌<◌, ◌≤◌, true, false, ◌⊎◌, List, [], ◌∷◌, ◌++◌, ◌≢◌}
+use Rattle.memory.specs.Functions.{changed}
 use Rattle.memory.proofs.model.Board.{none, write, Kind, load, store, Req, pass_entry, copy_entry, grant_entry, got_copy, drop_entry, store_entry, got_grant}
 use Rattle.memory.proofs.model.Page.{Mark, unmarked, sent, deferred, acked, Journey, home, asking, queued, copied, granted, clearing, Page, is_none, awaits, busy, loading, At, marks}
 use Rattle.memory.proofs.model.Sets.{has, put, Boards}
-use Rattle.memory.proofs.model.Sums.{upd}
 
 -- what a step answers
 pub data Answer (W : Type 0) : Type 0 where
@@ -26,30 +26,30 @@ module _ {W : Type 0} where
 
   -- one board's journey alone is changed
   abbrev pub goes : Page W → ℕ → Journey W → Page W
-  goes p a t = record { root = p.root; entry = p.entry; journey = upd p.journey a t; waits = p.waits }
+  goes p a t = record { root = p.root; entry = p.entry; journey = changed p.journey a t; waits = p.waits }
 
   -- a request of a, at u with nothing open there, is served: a's journey and u's table change
   abbrev pub passed_on : Page W → ℕ → ℕ → Kind → ℕ → (ℕ → List Req) → Page W
   passed_on p u a k h ws = record {
     root = p.root;
-    entry = upd p.entry u (pass_entry (p.entry u) a);
-    journey = upd p.journey a (asking k (p.entry u).hint (h + 1));
+    entry = changed p.entry u (pass_entry (p.entry u) a);
+    journey = changed p.journey a (asking k (p.entry u).hint (h + 1));
     waits = ws;
   }
 
   abbrev pub copied_to : Page W → ℕ → ℕ → ℕ → (ℕ → List Req) → Page W
   copied_to p u a h ws = record {
     root = p.root;
-    entry = upd p.entry u (copy_entry (p.entry u) a);
-    journey = upd p.journey a (copied u h (p.entry u).words);
+    entry = changed p.entry u (copy_entry (p.entry u) a);
+    journey = changed p.journey a (copied u h (p.entry u).words);
     waits = ws;
   }
 
   abbrev pub granted_to : Page W → ℕ → ℕ → ℕ → (ℕ → List Req) → Page W
   granted_to p u a h ws = record {
     root = a;
-    entry = upd p.entry u (grant_entry (p.entry u) a);
-    journey = upd p.journey a (granted u h (put (p.entry u).copies a false) (p.entry u).words);
+    entry = changed p.entry u (grant_entry (p.entry u) a);
+    journey = changed p.journey a (granted u h (put (p.entry u).copies a false) (p.entry u).words);
     waits = ws;
   }
 
@@ -61,22 +61,22 @@ module _ {W : Type 0} where
   -- the waiting list of u, in order, from its first on
   pub data Serving (u : ℕ) : Page W → Page W → Type 0 where
     empty : {p : Page W} → p.waits u ≡ [] → Serving u p p
-    one : {p q s : Page W} (r : Req) (rest : List Req) → p.waits u ≡ r ∷ rest → Serves p u r.asker (upd p.waits u rest) q → Serving u q s → Serving u p s
+    one : {p q s : Page W} (r : Req) (rest : List Req) → p.waits u ≡ r ∷ rest → Serves p u r.asker (changed p.waits u rest) q → Serving u q s → Serving u p s
 
   -- a's table after a copy, a deferred invalidation's drop, a finished store, a grant
   abbrev pub copy_came : Page W → ℕ → ℕ → W → Page W
   copy_came p a s w = record {
     root = p.root;
-    entry = upd p.entry a (got_copy (p.entry a) s w);
-    journey = upd p.journey a home;
+    entry = changed p.entry a (got_copy (p.entry a) s w);
+    journey = changed p.journey a home;
     waits = p.waits;
   }
 
   abbrev pub copy_dropped : Page W → ℕ → ℕ → W → ℕ → ℕ → (ℕ → Mark) → Page W
   copy_dropped p a s w c g m = record {
     root = p.root;
-    entry = upd p.entry a (drop_entry (got_copy (p.entry a) s w));
-    journey = upd (upd p.journey c (clearing g (upd m a acked))) a home;
+    entry = changed p.entry a (drop_entry (got_copy (p.entry a) s w));
+    journey = changed (changed p.journey c (clearing g (changed m a acked))) a home;
     waits = p.waits;
   }
 
@@ -84,24 +84,24 @@ module _ {W : Type 0} where
   abbrev pub stored_at : Page W → ℕ → W → Page W
   stored_at p a w = record {
     root = p.root;
-    entry = upd p.entry a (store_entry a w);
-    journey = upd p.journey a home;
+    entry = changed p.entry a (store_entry a w);
+    journey = changed p.journey a home;
     waits = p.waits;
   }
 
   abbrev pub grant_came : Page W → ℕ → ℕ → Boards → W → Page W
   grant_came p a h c w = record {
     root = p.root;
-    entry = upd p.entry a (got_grant a c w);
-    journey = upd p.journey a (clearing h (marks c));
+    entry = changed p.entry a (got_grant a c w);
+    journey = changed p.journey a (clearing h (marks c));
     waits = p.waits;
   }
 
   abbrev pub dropped : Page W → ℕ → ℕ → ℕ → (ℕ → Mark) → Page W
   dropped p x c h m = record {
     root = p.root;
-    entry = upd p.entry x (drop_entry (p.entry x));
-    journey = upd p.journey c (clearing h (upd m x acked));
+    entry = changed p.entry x (drop_entry (p.entry x));
+    journey = changed p.journey c (clearing h (changed m x acked));
     waits = p.waits;
   }
 
@@ -109,8 +109,8 @@ module _ {W : Type 0} where
   joined p a u k h = record {
     root = p.root;
     entry = p.entry;
-    journey = upd p.journey a (queued k u h);
-    waits = upd p.waits u (p.waits u ++ record { asker = a; kind = k; hops = h } ∷ []);
+    journey = changed p.journey a (queued k u h);
+    waits = changed p.waits u (p.waits u ++ record { asker = a; kind = k; hops = h } ∷ []);
   }
 
   -- calls: what is answered at once, and what opens
@@ -128,9 +128,9 @@ module _ {W : Type 0} where
     joins : (a u h : ℕ) (k : Kind) → p.journey a ≡ asking k u h → busy (p.journey u) ≡ true → Move p (joined p a u k h)
     served : {q : Page W} (a u h : ℕ) (k : Kind) → p.journey a ≡ asking k u h → p.journey u ≡ home → Serves p u a p.waits q → Move p q
     grant_in : (a s h y : ℕ) (c : Boards) (w : W) → p.journey a ≡ granted s h c w → has c y ≡ true → Move p (grant_came p a h c w)
-    defers : (c x h : ℕ) (m : ℕ → Mark) → p.journey c ≡ clearing h m → m x ≡ sent → loading (p.journey x) ≡ true → Move p (goes p c (clearing h (upd m x deferred)))
+    defers : (c x h : ℕ) (m : ℕ → Mark) → p.journey c ≡ clearing h m → m x ≡ sent → loading (p.journey x) ≡ true → Move p (goes p c (clearing h (changed m x deferred)))
     drops : (c x h : ℕ) (m : ℕ → Mark) → p.journey c ≡ clearing h m → m x ≡ sent → loading (p.journey x) ≡ false → Move p (dropped p x c h m)
-    acks : (c x y h : ℕ) (m : ℕ → Mark) → p.journey c ≡ clearing h m → m x ≡ acked → awaits (m y) ≡ true → (y ≢ x) → Move p (goes p c (clearing h (upd m x unmarked)))
+    acks : (c x y h : ℕ) (m : ℕ → Mark) → p.journey c ≡ clearing h m → m x ≡ acked → awaits (m y) ≡ true → (y ≢ x) → Move p (goes p c (clearing h (changed m x unmarked)))
 
   -- a load that finishes at a, with the words w and h hops; p with it done, the waiting list not yet served
   pub data Loaded (p : Page W) (a h : ℕ) (w : W) : Page W → Type 0 where

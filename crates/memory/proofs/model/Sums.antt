@@ -1,8 +1,5 @@
--- A function changed at one number, and sums, counts and tests over the numbers below n.
+-- Sums, counts and tests over the numbers below n.
 use Rattle.std.specs.Prelude.{ℕ, zero, suc, ◌+◌, Bool, true, cond, ◌&&◌, ◌==◌}
-
-abbrev pub upd : {X : Type 0} → (ℕ → X) → ℕ → X → ℕ → X
-upd f i v x = cond (x == i) v (f x)
 
 abbrev pub sum_to : ℕ → (ℕ → ℕ) → ℕ
 sum_to zero f = 0

@@ -1,6 +1,7 @@
 -- The tree of hints: following `next` from board to board, the trail of each request, and the four ways in which the hints change.
 use Rattle.std.specs.Prelude.{◌≡◌, ℕ, ◌+◌, ◌<◌, ◌≤◌, Bool, true, false, ◌≢◌}
-use Rattle.memory.proofs.model.Sums.{upd, count}
+use Rattle.memory.specs.Functions.{changed}
+use Rattle.memory.proofs.model.Sums.{count}
 
 -- x reaches b by following f
 pub data Reach (f : ℕ → ℕ) (b : ℕ) : ℕ → Type 0 where
@@ -40,16 +41,16 @@ pub record Inv (n : ℕ) (s : State) : Type 0 where
   pub askers : (a : ℕ) → s.asked a ≡ true → Asker n s.next a (s.hops a)
 
 abbrev pub opened : State → ℕ → State
-opened s a = record { root = s.root; next = s.next; asked = upd s.asked a true; hops = upd s.hops a 0 }
+opened s a = record { root = s.root; next = s.next; asked = changed s.asked a true; hops = changed s.hops a 0 }
 
 abbrev pub passed_on : State → ℕ → ℕ → State
-passed_on s a u = record { root = s.root; next = upd (upd s.next a (s.next u)) u a; asked = s.asked; hops = upd s.hops a (s.hops a + 1) }
+passed_on s a u = record { root = s.root; next = changed (changed s.next a (s.next u)) u a; asked = s.asked; hops = changed s.hops a (s.hops a + 1) }
 
 abbrev pub granted : State → ℕ → State
-granted s a = record { root = a; next = upd (upd s.next a a) s.root a; asked = s.asked; hops = s.hops }
+granted s a = record { root = a; next = changed (changed s.next a a) s.root a; asked = s.asked; hops = s.hops }
 
 abbrev pub closed : State → ℕ → State
-closed s a = record { root = s.root; next = s.next; asked = upd s.asked a false; hops = upd s.hops a 0 }
+closed s a = record { root = s.root; next = s.next; asked = changed s.asked a false; hops = changed s.hops a 0 }
 
 abbrev pub first : State
 first = record { root = 0; next = λ _. 0; asked = λ _. false; hops = λ _. 0 }
