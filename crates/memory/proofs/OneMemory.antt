@@ -16,10 +16,10 @@ use Rattle.lone.specs.Calls.{Outcome, load_at, store_at, arrive_at}
 use Rattle.lone.specs.LoneQuestions as lone
 use Rattle.lone.specs.Sizes.{has_address}
 use Rattle.memory.specs.Calls.{Running, room, access_questions, arrival_questions, Answers, without, DoesCall}
-use Rattle.memory.specs.Histories.{Access, load, store}
+use Rattle.memory.specs.Histories.{Access, load, store, IsDelivery}
 use Rattle.memory.specs.Kits.{board_at, state_at, with_board}
 use Rattle.memory.specs.Ledgers.{Ledger, is_open, open_accesses, passed_on}
-use Rattle.memory.specs.OneMemory.{NothingOpen}
+use Rattle.memory.specs.OneMemory.{NothingOpen, AnswerIsRight}
 use Rattle.memory.specs.Placements.{Placement, array}
 use Rattle.memory.specs.Promises.{IsOneMemory, IsWilling, NeverRefuses}
 use Rattle.memory.specs.Reached.{MayBegin, begun}
@@ -34,7 +34,7 @@ use Rattle.memory.proofs.images.Arriving.{arrives, quiet}
 use Rattle.memory.proofs.images.Bags.{size_map}
 use Rattle.memory.proofs.images.Deliveries.{to_few, belongs}
 use Rattle.memory.proofs.images.Finishes.{op_image, op_is}
-use Rattle.memory.proofs.images.Follows.{Follows, GoesOn, still_follows}
+use Rattle.memory.proofs.images.Follows.{Follows, GoesOn, still, still_follows, entered_by}
 use Rattle.memory.proofs.images.Images.{post_image}
 use Rattle.memory.proofs.images.Ledgers.{counted}
 use Rattle.memory.proofs.images.Loads as loads
@@ -120,21 +120,8 @@ module _ {n p : ℕ} {l : Ledger} {s : Running} {w : ℕ} (f : Follows n p l s w
     pub posts : PostsNothing answer posted
 
   -- a refused load or store
-  still_load : (b address : ℕ) (fault : Fault) → GoesOn n p l w (Load b address) (Err fault) [] s
-  still_load b address fault = record {
-    work_left = w;
-    follows = still_follows f;
-    right = tt;
-    works = λ d. absurd d;
-  }
-
-  still_store : (b address word : ℕ) (fault : Fault) → GoesOn n p l w (Store b address word) (Err fault) [] s
-  still_store b address word fault = record {
-    work_left = w;
-    follows = still_follows f;
-    right = tt;
-    works = λ d. absurd d;
-  }
+  stays : (call : Call) (fault : Fault) → still l ≡ entered_by l call (Err fault) [] → AnswerIsRight l (entered_by l call (Err fault) []) call (Err fault) → (IsDelivery call → ⊥) → GoesOn n p l w call (Err fault) [] s
+  stays call fault same right no_delivery = record { work_left = w; follows = subst (λ x. Follows n p x s w) same (still_follows f); right = right; works = λ d. absurd (no_delivery d) }
 
   -- who is not refused may open an access
   record May (b address : ℕ) : Type 0 where
@@ -190,9 +177,9 @@ module _ {n p : ℕ} {l : Ledger} {s : Running} {w : ℕ} (f : Follows n p l s w
 
   pub fine : (call : Call) (answer : Result Answer Fault) (posted : List Message) (t : Running) → DoesCall call s answer posted t → Fine call answer posted t
   fine (Load b address) answer posted t d =
-      access_fine (Load b address) b address (load_at (board_at s.kit b) address) refl (λ m. loads.goes_on f b address m.in_board m.ok) (still_load b address) answer posted t d
+      access_fine (Load b address) b address (load_at (board_at s.kit b) address) refl (λ m. loads.goes_on f b address m.in_board m.ok) (λ fault. stays (Load b address) fault refl tt (λ d. d)) answer posted t d
   fine (Store b address word) answer posted t d =
-      access_fine (Store b address word) b address (store_at (board_at s.kit b) address word) refl (λ m. stores.goes_on f b address word m.in_board m.ok) (still_store b address word) answer posted t d
+      access_fine (Store b address word) b address (store_at (board_at s.kit b) address word) refl (λ m. stores.goes_on f b address word m.in_board m.ok) (λ fault. stays (Store b address word) fault refl tt (λ d. d)) answer posted t d
   fine (Deliver pick) answer posted t d = deliveries_fine pick answer posted t d
 
   -- The work that is left.

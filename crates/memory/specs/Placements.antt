@@ -1,5 +1,5 @@
 -- The memory that a kit starts with: the words that were placed, else zeros.
-use Rattle.std.specs.Prelude.{◌≡◌, ℕ, ◌*◌, ◌<◌, ◌≤◌, cond, List, [], ◌∷◌, ◌==◌, slice_set}
+use Rattle.std.specs.Prelude.{◌≡◌, ℕ, ◌*◌, ◌<◌, ◌≤◌, List, [], ◌∷◌, slice_set}
 use Rattle.memory.specs.Functions.{changed}
 use Rattle.lone.specs.Tables.{word_at, with_word_at}
 use Rattle.memory.specs.Kits.{Kit, table_of, start_kit}

@@ -1,11 +1,10 @@
 -- A load or a store in a kit is one in the model.
-use Rattle.std.proofs.Common.{◌≡◌, ℕ, ◌+◌, ◌-◌, ◌*◌, ◌<◌, ◌≤◌, Bool, true, false, ◌⊎◌, List, [], ◌∷◌, map, length, replicate, set, Some, None, refl, ap, ◌∙◌, sym, subst, inl, inr, arith}
+use Rattle.std.proofs.Common.{◌≡◌, ℕ, ◌+◌, ◌-◌, ◌*◌, ◌<◌, ◌≤◌, Bool, true, ◌⊎◌, List, [], ◌∷◌, map, length, set, Some, None, refl, ap, ◌∙◌, sym, subst, inl, inr, arith}
 use Rattle.std.proofs.lemmas.Bool.{cases_eq, ne_eqb, eq-eqb, ltb-true, true≢false}
 use Rattle.std.proofs.lemmas.List.{set-get_or}
 use Rattle.std.specs.List.{AllByRecursion as All}
 use Rattle.memory.specs.Functions.{changed}
 use Rattle.wire.specs.Bags.{◌⊕◌}
-use Rattle.wire.specs.BoardSets as sets
 use Rattle.wire.specs.Questions.{first_no}
 use Rattle.wire.proofs.Sending.{size_beside}
 use Rattle.wire.specs.declared.message.Message.{Message}
@@ -59,11 +58,6 @@ idle_is Idle h = refl
 idle_is (LoadAsked a) h = absurd (true≢false (sym h))
 idle_is (StoreAsked a) h = absurd (true≢false (sym h))
 idle_is (Clearing c) h = absurd (true≢false (sym h))
-
-pub no_member : (c : List Bool) → sets.none_of c ≡ true → c ≡ replicate (length c) false
-no_member [] h = refl
-no_member (true ∷ c) h = absurd (true≢false (sym h))
-no_member (false ∷ c) h = ap (λ (x : List Bool). false ∷ x) (no_member c h)
 
 -- who may open an access at a board
 module _ {n p : ℕ} {l : specs.Ledger} {s : Running} {w : ℕ} (f : Follows n p l s w) (b address : ℕ) (in_board : b < n) (ok : first_no (lone.access_questions (board_at s.kit b) address) ≡ None) where

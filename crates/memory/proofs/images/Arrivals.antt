@@ -31,7 +31,8 @@ use Rattle.memory.proofs.model.Sets.{has}
 use Rattle.memory.proofs.model.Steps.{Answer, nothing, read_at, written_at}
 use Rattle.memory.proofs.images.Images.{W, entry_image, kind_image, request_image, mail_by, mail_image, post_image, put_word, deferral_image, StageIs, SeatIs}
 use Rattle.memory.proofs.images.Serving.{FewHops, Full, entry_served, mail_served, entries_served, mails_served}
-use Rattle.memory.proofs.images.Sets.{has_is, nobody_is, empty_is, lacking_is, map_joined, invalidates_are, on_page}
+use Rattle.memory.proofs.images.Sets.{has_is, nobody_is, empty_is, lacking_is, invalidates_are, on_page}
+use Rattle.std.proofs.lemmas.List.{map-append}
 
 -- what the model has of an access that finished
 abbrev pub AnswerIs : Option Finished → Answer W → Type 0
@@ -108,7 +109,7 @@ module _ (n : ℕ) (s : BoardState) (e : PageEntry) (m : Message) (seat : Seat W
     mails = [];
     answer = nothing;
     replied = open_stage st q o;
-    seat_is = record { stage = stage_waits s.stage seat (request_image r) f.is.stage; waiting = ap (λ (x : List model.Req). x ++ request_image r ∷ []) f.is.waiting ∙ sym (map_joined request_image s.waiting (r ∷ [])) };
+    seat_is = record { stage = stage_waits s.stage seat (request_image r) f.is.stage; waiting = ap (λ (x : List model.Req). x ++ request_image r ∷ []) f.is.waiting ∙ sym (map-append request_image s.waiting (r ∷ [])) };
     entry_is = refl;
     answer_is = tt;
     posts_are = λ _. refl;
@@ -164,10 +165,10 @@ module _ (n : ℕ) (s : BoardState) (e : PageEntry) (m : Message) (seat : Seat W
         entry_is = entries_served me m.page s.waiting x full f.askers;
         answer_is = is;
         posts_are = λ few.
-            map_joined (on_page m.page) mails (model.serve_mails me (entry_image x) w)
+            map-append (on_page m.page) mails (model.serve_mails me (entry_image x) w)
             ∙ ap (λ z. z ++ map (on_page m.page) (model.serve_mails me (entry_image x) w)) first
             ∙ ap (λ z. map post_image posted ++ z) (mails_served me m.page s.waiting x full f.askers (all_behind FewHops mails (model.serve_mails me (entry_image x) w) few))
-            ∙ sym (map_joined post_image posted (posts_for me m.page x s.waiting));
+            ∙ sym (map-append post_image posted (posts_for me m.page x s.waiting));
       }
 
   copied : (load : OpenLoad) → s.stage ≡ LoadAsked load → eqb (page_of load.address) m.page ≡ true → Replied m.page (board.finish_load load s e m) (on (model.copy m.from m.to m.hops m.words) (LoadAsked load))

@@ -10,7 +10,8 @@ use Rattle.memory.proofs.model.Kit.{none_below, invalidates, Post}
 use Rattle.memory.proofs.model.Board.{Mail, invalidate}
 use Rattle.memory.proofs.images.Images.{W, post_image}
 use Rattle.wire.proofs.BoardSets.{member_below, lacks}
-use Rattle.std.proofs.lemmas.List.{get_or-set_other, append-nil}
+use Rattle.std.proofs.lemmas.List.{get_or-set_other, append-nil, map-append, get_or-drop}
+use Rattle.std.proofs.lemmas.List.Elements.{filter-append}
 use Rattle.memory.specs.Functions.{changed}
 use Rattle.board.specs.Posts as board
 
@@ -73,18 +74,6 @@ range_more : (a k : ℕ) → range_with_len a (suc k) ≡ range_with_len a k ++ 
 range_more a zero = ap (λ (x : ℕ). x ∷ []) (omega arith)
 range_more a (suc k) = ap (λ (x : List ℕ). a ∷ x) (range_more (a + 1) k ∙ ap (λ (x : ℕ). range_with_len (a + 1) k ++ x ∷ []) (omega arith))
 
-filter_more : (p : ℕ → Bool) (xs ys : List ℕ) → filter p (xs ++ ys) ≡ filter p xs ++ filter p ys
-filter_more p [] ys = refl
-filter_more p (x ∷ xs) ys = by (p x) (filter_more p xs ys)
-  where
-    by : (b : Bool) → filter p (xs ++ ys) ≡ filter p xs ++ filter p ys → cond b (x ∷ filter p (xs ++ ys)) (filter p (xs ++ ys)) ≡ cond b (x ∷ filter p xs) (filter p xs) ++ filter p ys
-    by true h = ap (λ (z : List ℕ). x ∷ z) h
-    by false h = h
-
-pub map_joined : {X Y : Type 0} (f : X → Y) (xs ys : List X) → map f (xs ++ ys) ≡ map f xs ++ map f ys
-map_joined f [] ys = refl
-map_joined f (x ∷ xs) ys = ap (λ z. f x ∷ z) (map_joined f xs ys)
-
 abbrev to_each : ℕ → List ℕ → List (Mail W)
 to_each me ys = map (λ y. invalidate me y) ys
 
@@ -93,8 +82,8 @@ rising zero me c = refl
 rising (suc k) me c =
     ap (λ (x : List (Mail W)). x ++ cond (has c k) (invalidate me k ∷ []) []) (rising k me c)
     ∙ last (has c k) (get_or c k false) (has_is c k)
-    ∙ sym (ap (λ (x : List ℕ). to_each me (filter (λ y. get_or c y false) x)) (range_more 0 k ∙ ap (λ (x : ℕ). range_with_len 0 k ++ x ∷ []) {y = k} (omega arith)) ∙ ap (to_each me) (filter_more (λ y. get_or c y false) (range_with_len 0 k) (k ∷ []))
-    ∙ map_joined (λ y. invalidate me y) (filter (λ y. get_or c y false) (range_with_len 0 k)) (cond (get_or c k false) (k ∷ []) []))
+    ∙ sym (ap (λ (x : List ℕ). to_each me (filter (λ y. get_or c y false) x)) (range_more 0 k ∙ ap (λ (x : ℕ). range_with_len 0 k ++ x ∷ []) {y = k} (omega arith)) ∙ ap (to_each me) (filter-append (λ y. get_or c y false) (range_with_len 0 k) (k ∷ []))
+    ∙ map-append (λ y. invalidate me y) (filter (λ y. get_or c y false) (range_with_len 0 k)) (cond (get_or c k false) (k ∷ []) []))
   where
     last : (a b : Bool) → a ≡ b → to_each me (filter (λ y. get_or c y false) (range_with_len 0 k)) ++ cond a (invalidate me k ∷ []) [] ≡ to_each me (filter (λ y. get_or c y false) (range_with_len 0 k)) ++ to_each me (cond b (k ∷ []) [])
     last true true e = refl
@@ -126,14 +115,15 @@ invalidates_are n me page s l below =
     each (y ∷ ys) = ap (λ (z : List (Post W)). on_page page (invalidate me y) ∷ z) (each ys)
 
 -- a set each of whose members is below n
-get_or_drop : (n y : ℕ) (c : List Bool) → get_or (drop n c) y false ≡ get_or c (n + y) false
-get_or_drop zero y c = ap (λ (x : ℕ). get_or c x false) (omega arith)
-get_or_drop (suc n) y [] = refl
-get_or_drop (suc n) y (b ∷ c) = get_or_drop n y c ∙ ap (λ (x : ℕ). get_or (b ∷ c) x false) {x = suc (n + y)} (omega arith)
-
 pub below_from : (s : BoardSet) (n : ℕ) → ((y : ℕ) → sets.has s y ≡ true → y < n) → sets.is_below s n ≡ true
 below_from s n h = by (sets.none_of (drop n s.members)) refl
   where
     by : (b : Bool) → sets.none_of (drop n s.members) ≡ b → sets.none_of (drop n s.members) ≡ true
     by true e = e
-    by false e = absurd (let m = some_member (drop n s.members) e in let l = h (n + m.0) (sym (get_or_drop n m.0 s.members) ∙ m.1) in omega (arith, l))
+    by false e = absurd (let m = some_member (drop n s.members) e in let l = h (n + m.0) (sym (get_or-drop n s.members m.0 false) ∙ m.1) in omega (arith, l))
+
+-- where nobody is a member, each place says so
+pub no_member : (c : List Bool) → sets.none_of c ≡ true → c ≡ replicate (length c) false
+no_member [] h = refl
+no_member (true ∷ c) h = absurd (true≢false (sym h))
+no_member (false ∷ c) h = ap (λ (x : List Bool). false ∷ x) (no_member c h)

@@ -1,7 +1,8 @@
 -- The model follows a kit that just started.
-use Rattle.std.proofs.Common.{◌≡◌, ℕ, zero, suc, ◌+◌, ◌*◌, ◌<◌, ◌≤◌, Bool, true, cond, List, [], ◌∷◌, map, length, get_or, refl, ap, ◌∙◌, sym, subst, inl, inr, arith}
+use Rattle.std.proofs.Common.{◌≡◌, ℕ, ◌+◌, ◌*◌, ◌<◌, ◌≤◌, Bool, true, cond, List, [], ◌∷◌, map, length, get_or, refl, ap, ◌∙◌, sym, subst, inl, inr, arith}
 use Rattle.std.proofs.lemmas.Bool.{cases_eq, ne_eqb}
 use Rattle.std.proofs.lemmas.List.{length-replicate, get_or-replicate, get_or-set_same, get_or-set_other}
+use Rattle.std.proofs.lemmas.List.FromFn.{get_or-map-range_with_len}
 use Rattle.std.specs.List.{range_with_len}
 use Rattle.wire.specs.BoardSets.{no_boards}
 use Rattle.board.specs.Addresses.{page_of, place_of}
@@ -34,12 +35,6 @@ use Rattle.memory.proofs.images.Matches.{Sized, Matches}
 use Rattle.memory.proofs.images.OpenAccesses.{pending_of, not_asked}
 use Rattle.memory.proofs.images.Sets.{nobody_is}
 
--- the item at a place of a numbered list
-numbered : {X : Type 0} (f : ℕ → X) (a len i : ℕ) (d : X) → i < len → get_or (map f (range_with_len a len)) i d ≡ f (a + i)
-numbered f a zero i d l = absurd (omega (arith, l))
-numbered f a (suc len) zero d l = ap f (omega arith)
-numbered f a (suc len) (suc i) d l = numbered f (a + 1) len i d (omega (arith, l)) ∙ ap f (omega arith)
-
 -- placing changes words of board 0 alone
 module _ (n p : ℕ) where
   boards_are : (qs : List Placement) → (after_placing n p qs).boards ≡ n
@@ -55,10 +50,10 @@ module _ (n p : ℕ) where
   states_are (q ∷ qs) = states_are qs
 
   state_is : (qs : List Placement) (b : ℕ) → b < 16 → state_at (after_placing n p qs) b ≡ start_state b
-  state_is qs b l = ap (λ (x : List BoardState). get_or x b (start_state b)) (states_are qs) ∙ numbered start_state 0 16 b (start_state b) l ∙ ap start_state (omega arith)
+  state_is qs b l = ap (λ (x : List BoardState). get_or x b (start_state b)) (states_are qs) ∙ get_or-map-range_with_len start_state 0 16 b b (start_state b) l (omega arith)
 
   other_table : (qs : List Placement) (b : ℕ) → b < 16 → (b ≡ 0 → ⊥) → table_of (after_placing n p qs) b ≡ start_table b
-  other_table [] b l ne = numbered start_table 0 16 b [] l ∙ ap start_table (omega arith)
+  other_table [] b l ne = get_or-map-range_with_len start_table 0 16 b b [] l (omega arith)
   other_table (q ∷ qs) b l ne = get_or-set_other (after_placing n p qs).tables 0 b (with_word_at (table_of (after_placing n p qs) 0) q.address q.word) [] ne ∙ other_table qs b l ne
 
   -- board 0 owns every page

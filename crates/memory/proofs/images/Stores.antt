@@ -43,11 +43,11 @@ use Rattle.lone.proofs.EntryForms.{EntryTold, owner_rest, writer_told}
 use Rattle.memory.proofs.model.Board.{write}
 use Rattle.memory.proofs.model.Sets.{has}
 use Rattle.memory.proofs.images.Ledgers.{counts_on, put_agrees, pending_step}
-use Rattle.memory.proofs.images.Sets.{has_is, nobody_is, empty_is, invalidates_are, on_page}
+use Rattle.memory.proofs.images.Sets.{has_is, nobody_is, empty_is, invalidates_are, on_page, no_member}
 
 -- a set without members
 emptied : (c : BoardSet) → length c.members ≡ 16 → sets.is_empty c ≡ true → c.members ≡ replicate 16 false
-emptied c l h = at.no_member c.members h ∙ ap (λ (x : ℕ). replicate x false) l
+emptied c l h = no_member c.members h ∙ ap (λ (x : ℕ). replicate x false) l
 
 readable : (a : Kind) → reads a ≡ true → is_none (access_image a) ≡ false
 readable access.None h = absurd (true≢false (sym h))
