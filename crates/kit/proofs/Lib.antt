@@ -1,1 +1,3 @@
 pub mod WorkedCases
+mod Nodes
+mod Numbers

@@ -1,7 +1,10 @@
--- What the code's boards are as a kit.
-use Rattle.std.specs.Prelude.{List, map}
+-- What the code's boards are as a kit, and over a link.
+use Rattle.std.specs.Prelude.{ℕ, List, map}
+use Rattle.wire.specs.Bags.{Bag}
+use Rattle.wire.specs.declared.message.Message.{Message}
 use Rattle.board.specs.Boards.{BoardState, state_of}
 use Rattle.board.specs.declared.entry.PageEntry.{PageEntry}
+use Rattle.memory.specs.Calls as calls
 use Rattle.memory.specs.Kits.{Kit}
 use Rattle.kit.specs.declared.node.Node.{Node}
 use Rattle.kit.specs.declared.cluster.Cluster.{Cluster}
@@ -14,3 +17,7 @@ node_entries n = n.table.entries
 
 abbrev pub kit_of : Cluster → Kit
 kit_of k = record { boards = k.size.boards; pages = k.size.pages; states = map node_state k.nodes; tables = map node_entries k.nodes }
+
+-- the kit over a link with this limit, on which these messages wait
+abbrev pub over : Cluster → ℕ → Bag Message → calls.Running
+over k limit waiting = record { kit = kit_of k; limit = limit; waiting = waiting }

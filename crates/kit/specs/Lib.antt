@@ -1,3 +1,5 @@
 pub mod Clusters
+pub mod Forms
 pub mod KitQuestions
+pub mod Steps
 pub mod WorkedCases

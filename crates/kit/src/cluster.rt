@@ -10,6 +10,8 @@ use lone::size::Size;
 use std::array::from_fn;
 use wire::fault::Fault;
 
+mod calls;
+
 /// The boards of a kit and how many of them there are, with how many pages. The boards past that number stay as at the start.
 #[derive(Drop)]
 pub struct Cluster {
