@@ -1,3 +1,4 @@
 pub mod WorkedCases
 mod Nodes
 mod Numbers
+mod Runs

@@ -4,3 +4,4 @@ pub mod cluster;
 pub mod laws;
 pub mod loading;
 mod node;
+pub mod running;

@@ -13,7 +13,7 @@ use wire::link::Link;
 
 /// A kit that takes words to place, and is not yet started.
 #[derive(Drop)]
-pub struct Loading<L: Link> {
+pub struct Loading<L> {
     cluster: Cluster,
     link: L,
 }

@@ -1,6 +1,7 @@
-ghost use Rattle.std.specs.Prelude.{◌≡◌, ◌<◌, ◌&&◌, None, [], nat_lt};
+ghost use Rattle.std.specs.Prelude.{◌≡◌, ◌+◌, ◌<◌, ◌≤◌, ◌&&◌, None, [], IfOk, nat_lt};
+ghost use Rattle.wire.specs.Bags.{size};
 ghost use Rattle.wire.specs.Questions.{refusal, first_no};
-ghost use Rattle.board.specs.Outboxes.{posts};
+ghost use Rattle.board.specs.Outboxes.{posts, outbox_room};
 ghost use Rattle.lone.specs.Calls.{load_at, store_at, arrive_at};
 ghost use Rattle.lone.specs.LoneQuestions as lone;
 ghost use Rattle.memory.specs.Calls.{access_questions, arrival_questions};
@@ -43,7 +44,10 @@ impl Cluster {
     /// What a message taken from a link is asked: the room comes last.
     pub(crate) fn ask_arrival<L: Link>(&self, message: &Message, link: &L) -> Result<(), Fault>
         requires { KitForm (kit_of self.now) }
-        ensures { refusal result ≡ first_no (arrival_questions (over self.now (L.limit link.now) (L.waiting link.now)) message.now) }
+        ensures refused { refusal result ≡ first_no (arrival_questions (over self.now (L.limit link.now) (L.waiting link.now)) message.now) }
+        ensures passed { IfOk result (λ _. (message.now.to < (kit_of self.now).boards)
+            × (first_no (lone.arrival_questions (board_at (kit_of self.now) message.now.to) message.now) ≡ None)
+            × (size (L.waiting link.now) + outbox_room ≤ L.limit link.now)) }
     {
         ask_form(message)?;
         if !self.belongs(message) {

@@ -1,0 +1,101 @@
+-- What a call on a running kit does, and what becomes of every history that led to the kit.
+use Rattle.std.specs.Prelude.{◌≡◌, ℕ, ◌+◌, min, List, [], ◌∷◌, ◌++◌, Some, None, Ok, Err, Option, Result}
+use Rattle.std.proofs.Common.{inl, inr}
+use Rattle.wire.specs.Bags.{Bag}
+use Rattle.wire.specs.Links.{InTurn}
+use Rattle.wire.specs.declared.fault.Fault.{Fault}
+use Rattle.wire.specs.declared.message.Message.{Message}
+use Rattle.board.specs.declared.answer.AccessAnswer.{AccessAnswer}
+use Rattle.board.specs.declared.answer.AccessAnswer.TheVariants.{Answered, Opened}
+use Rattle.board.specs.declared.answer.Arrival.{Arrival}
+use Rattle.memory.specs.declared.answer.Answer.{Answer}
+use Rattle.memory.specs.declared.answer.Answer.TheVariants.{Accessed, Arrived, Quiet}
+use Rattle.memory.specs.declared.call.Call.{Call}
+use Rattle.memory.specs.declared.call.Call.TheVariants.{Load, Store, Deliver}
+use Rattle.memory.specs.Calls as calls
+use Rattle.memory.specs.Calls.{DoesCall}
+use Rattle.memory.specs.Histories.{History}
+use Rattle.memory.specs.OneMemory.{OneMemory}
+use Rattle.memory.specs.Placements.{Placement, array}
+use Rattle.memory.specs.Promises.{NothingIsRefused}
+use Rattle.memory.specs.Reached.{MayBegin, begun, Reached}
+use Rattle.memory.specs.Willing.{Willing}
+use Rattle.kit.specs.Clusters.{over}
+use Rattle.kit.specs.declared.running.Running.{Running}
+
+-- The answers of the code's calls.
+
+abbrev pub accessed : Result AccessAnswer Fault → Result Answer Fault
+accessed (Ok answer) = Ok (Accessed answer)
+accessed (Err fault) = Err fault
+
+-- a delivery without an arrival is quiet
+abbrev pub delivered : Result (Option Arrival) Fault → Result Answer Fault
+delivered (Ok None) = Ok Quiet
+delivered (Ok (Some arrival)) = Ok (Arrived arrival)
+delivered (Err fault) = Err fault
+
+-- The opened count: how many accesses were opened, in 32 bits, stopping at the largest.
+
+abbrev pub opened_by : Result Answer Fault → ℕ
+opened_by (Ok (Accessed (Answered word))) = 0
+opened_by (Ok (Accessed Opened)) = 1
+opened_by (Ok (Arrived arrival)) = 0
+opened_by (Ok Quiet) = 0
+opened_by (Err fault) = 0
+
+abbrev pub openings : History → ℕ
+openings [] = 0
+openings (e ∷ h) = opened_by e.answer + openings h
+
+abbrev pub counted : ℕ → ℕ
+counted n = min n 4294967295
+
+-- the count after one more answer
+abbrev pub opened_after : ℕ → Result Answer Fault → ℕ
+opened_after n (Ok (Accessed (Answered word))) = n
+opened_after n (Ok (Accessed Opened)) = counted (n + 1)
+opened_after n (Ok (Arrived arrival)) = n
+opened_after n (Ok Quiet) = n
+opened_after n (Err fault) = n
+
+-- the message that a call takes from the link
+abbrev pub taken : (call : Call) (s : calls.Running) (answer : Result Answer Fault) (posted : List Message) (t : calls.Running) → DoesCall call s answer posted t → Option Message
+taken (Load board address) s answer posted t does = None
+taken (Store board address word) s answer posted t does = None
+taken (Deliver pick) s answer posted t (inl quiet) = None
+taken (Deliver pick) s answer posted t (inr delivers) = Some delivers.message
+
+module _ {L : Type 0} (limit : L → ℕ) (waiting : L → Bag Message) where
+  abbrev pub running_of : Running L → calls.Running
+  running_of r = over r.cluster (limit r.link) (waiting r.link)
+
+  -- a history of a kit that began so leads to r
+  pub record LeadsTo (n p first_limit : ℕ) (placements : List Placement) (history : History) (r : Running L) : Type 0 where
+    pub reached : Reached (begun n p first_limit placements) history (running_of r)
+    pub opened : r.opened ≡ counted (openings history)
+
+  -- it leads to r, it is one memory and that of a willing kit, and of what waits nothing is refused
+  pub record Kept (n p first_limit : ℕ) (placements : List Placement) (history : History) (r : Running L) : Type 0 where
+    pub leads : LeadsTo n p first_limit placements history r
+    pub one_memory : OneMemory n (array placements) history
+    pub willing : Willing n p (array placements) history
+    pub not_refused : NothingIsRefused n (running_of r)
+
+module _ {L : Type 0} (limit : L → ℕ) (waiting : L → Bag Message) (joins : L → Message → Result (Unit {0}) Fault → L → Type 0) (chooses : L → ℕ → Option Message → L → Type 0) where
+  -- A load or a store posts on the link; a delivery takes from it first, with the pick. What is posted joins the link in its order.
+  abbrev pub LinkDoes : Call → Option Message → List Message → L → L → Type 0
+  LinkDoes (Load board address) message posted before after = InTurn joins posted before after
+  LinkDoes (Store board address word) message posted before after = InTurn joins posted before after
+  LinkDoes (Deliver pick) message posted before after = (between : L) × chooses before pick message between × InTurn joins posted between after
+
+  -- a call on r is answered, and leaves t
+  pub record GoesOn (call : Call) (answer : Result Answer Fault) (r t : Running L) : Type 0 where
+    pub posted : List Message
+    -- the answer, the messages, the tables and what waits are those of the call's meaning
+    pub does : DoesCall call (running_of limit waiting r) answer posted (running_of limit waiting t)
+    pub link : LinkDoes call (taken call (running_of limit waiting r) answer posted (running_of limit waiting t) does) posted r.link t.link
+    pub opened : t.opened ≡ opened_after r.opened answer
+    -- every history that led to r leads to t with this call, and is one memory
+    pub kept : (n p first_limit : ℕ) (placements : List Placement) → MayBegin n p first_limit placements → (history : History) → LeadsTo limit waiting n p first_limit placements history r →
+        Kept limit waiting n p first_limit placements (history ++ record { call = call; answer = answer; posted = posted } ∷ []) t

@@ -1,0 +1,98 @@
+ghost use Rattle.kit.specs.Clusters.{kit_of};
+ghost use Rattle.kit.specs.Forms.{KitForm};
+
+use crate::cluster::Cluster;
+use board::answer::{AccessAnswer, Arrival};
+use board::outbox::Outbox;
+use wire::fault::Fault;
+use wire::link::Link;
+
+/// A kit that was started: its boards keep one memory over the link.
+#[derive(Drop)]
+pub struct Running<L> {
+    cluster: Cluster,
+    link: L,
+    opened: u32,
+    ghost forms: { KitForm (kit_of cluster) },
+}
+
+impl<L: Link> Running<L> {
+    ghost use Rattle.std.specs.Prelude.{◌≡◌, ◌+◌, Ok, OnErr, MatchResult, MatchOption};
+    ghost use Rattle.memory.specs.declared.answer.Answer.TheVariants.{Accessed};
+    ghost use Rattle.memory.specs.declared.call.Call.TheVariants.{Load, Store, Deliver};
+    ghost use Rattle.kit.specs.Runs.{GoesOn, accessed, delivered, opened_after};
+
+    /// A kit just started.
+    pub(crate) fn new(cluster: Cluster, link: L) -> Running<L>
+        requires { KitForm (kit_of cluster) }
+        ensures cluster { result.cluster ≡ cluster }
+        ensures link { result.link ≡ link }
+        ensures opened { result.opened ≡ 0 }
+    {
+        Running {
+            cluster,
+            link,
+            opened: 0,
+        }
+    }
+
+    /// A board loads the word at an address, or opens the load.
+    pub fn load(&mut self, board: u8, address: u32) -> Result<AccessAnswer, Fault>
+        ensures goes_on { GoesOn L.Link.limit L.waiting L.Choice.joins L.Choice.chooses (Load board address) (accessed result) self.old self.new }
+        ensures refused { OnErr result (self.new ≡ self.old) }
+    {
+        self.cluster.ask_access(board, address, &self.link)?;
+        let mut out = Outbox::new();
+        let answer = self.cluster.load(board, address, &mut out);
+        out.send(&mut self.link)?;
+        self.count(answer);
+        Ok(answer)
+    }
+
+    /// A board stores a word at an address, or opens the store.
+    pub fn store(&mut self, board: u8, address: u32, word: u32) -> Result<AccessAnswer, Fault>
+        ensures goes_on { GoesOn L.Link.limit L.waiting L.Choice.joins L.Choice.chooses (Store board address word) (accessed result) self.old self.new }
+        ensures refused { OnErr result (self.new ≡ self.old) }
+    {
+        self.cluster.ask_access(board, address, &self.link)?;
+        let mut out = Outbox::new();
+        let answer = self.cluster.store(board, address, word, &mut out);
+        out.send(&mut self.link)?;
+        self.count(answer);
+        Ok(answer)
+    }
+
+    /// One of the messages that wait, of the link's choice, arrives at its board. Where none waits the delivery is quiet, and answers `None`.
+    pub fn deliver(&mut self, pick: u16) -> Result<Option<Arrival>, Fault>
+        ensures goes_on { GoesOn L.Link.limit L.waiting L.Choice.joins L.Choice.chooses (Deliver pick) (delivered result) self.old self.new }
+        ensures quiet { MatchResult result (λ arrival. MatchOption arrival (self.new ≡ self.old) (λ _. Unit {0})) (λ _. Unit {0}) }
+    {
+        let Some(message) = self.link.take(pick) else {
+            return Ok(None);
+        };
+        self.cluster.ask_arrival(&message, &self.link)?;
+        let mut out = Outbox::new();
+        let arrival = self.cluster.arrive(&message, &mut out);
+        out.send(&mut self.link)?;
+        Ok(Some(arrival))
+    }
+
+    /// How many accesses were opened since the kit was started. The count stops at the largest.
+    pub fn opened(&self) -> u32
+        ensures { result ≡ self.now.opened }
+    {
+        self.opened
+    }
+
+    /// Counts an access that opened.
+    fn count(&mut self, answer: AccessAnswer)
+        ensures cluster { self.new.cluster ≡ self.old.cluster }
+        ensures link { self.new.link ≡ self.old.link }
+        ensures opened { self.new.opened ≡ opened_after self.old.opened (Ok (Accessed answer)) }
+    {
+        match answer {
+            AccessAnswer::Answered { .. } => {}
+            AccessAnswer::Opened => self.opened = self.opened.saturating_add(1),
+        }
+    }
+}
