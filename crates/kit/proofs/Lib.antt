@@ -2,3 +2,5 @@ pub mod WorkedCases
 mod Nodes
 mod Numbers
 mod Runs
+mod Starting
+mod Empty

@@ -1,6 +1,6 @@
 -- What a call does goes on every history that led to the kit.
 use Rattle.std.proofs.Common.{◌≡◌, ℕ, ◌+◌, ◌<◌, min, List, [], ◌∷◌, ◌++◌, Some, None, Ok, Err, Option, Result, refl, ap, ◌∙◌, sym, subst, inl, inr, arith}
-use Rattle.wire.specs.Bags.{Bag, ◌&◌}
+use Rattle.wire.specs.Bags.{Bag, ◌&◌, empty}
 use Rattle.wire.specs.Links.{Sent, InTurn, Taken}
 use Rattle.wire.specs.Questions.{first_no, refusal}
 use Rattle.wire.specs.declared.fault.Fault.{Fault}
@@ -12,7 +12,7 @@ use Rattle.lone.specs.Calls.{Outcome, load_at, store_at, arrive_at}
 use Rattle.memory.specs.Calls.{Answers, Delivers, DoesCall, access_questions, arrival_questions, without}
 use Rattle.memory.specs.Histories.{History, Event}
 use Rattle.memory.specs.Kits.{board_at, with_board}
-use Rattle.memory.specs.Placements.{Placement}
+use Rattle.memory.specs.Placements.{Placement, after_placing}
 use Rattle.memory.specs.Reached.{MayBegin, begun, Reached, started, onward}
 use Rattle.memory.specs.declared.answer.Answer.{Answer}
 use Rattle.memory.specs.declared.answer.Answer.TheVariants.{Accessed, Arrived, Quiet}
@@ -145,3 +145,10 @@ module _ {L : Type 0} (limit : L → ℕ) (waiting : L → Bag Message) where
     quiet pick r t u taken chosen link kit opened =
         let does = inl (taken.0.0, refl, refl, rw (kit, link, taken.1) refl) in
         record { posted = []; does = does; link = (u, chosen, link); opened = opened; kept = keeps (record { call = Deliver pick; answer = Ok Quiet; posted = [] }) r t does opened }
+
+  -- a kit just started
+  pub begins : (n p first_limit : ℕ) (placements : List Placement) (r : Running L) → kit_of r.cluster ≡ after_placing n p placements → limit r.link ≡ first_limit → waiting r.link ≡ empty → r.opened ≡ 0 →
+      LeadsTo limit waiting n p first_limit placements [] r
+  begins n p first_limit placements r kit same_limit none opened =
+      let same : running_of limit waiting r ≡ begun n p first_limit placements = rw (kit, same_limit, none) refl in
+      record { reached = subst (λ s. Reached (begun n p first_limit placements) [] s) (sym same) started; opened = opened }

@@ -1,12 +1,8 @@
-ghost use Rattle.std.specs.Prelude.{◌≡◌, IfOk, MatchResult};
-ghost use Rattle.wire.specs.Bags.{size};
-ghost use Rattle.wire.specs.Questions.{refusal, first_no};
-ghost use Rattle.memory.specs.Kits.{start_kit};
-ghost use Rattle.memory.specs.Placements.{placed};
 ghost use Rattle.kit.specs.Clusters.{kit_of};
-ghost use Rattle.kit.specs.KitQuestions.{making_questions, place_questions};
+ghost use Rattle.kit.specs.Forms.{KitForm};
 
 use crate::cluster::Cluster;
+use crate::running::Running;
 use lone::size::Size;
 use wire::fault::Fault;
 use wire::link::Link;
@@ -16,9 +12,16 @@ use wire::link::Link;
 pub struct Loading<L> {
     cluster: Cluster,
     link: L,
+    ghost forms: { KitForm (kit_of cluster) },
 }
 
 impl<L: Link + Drop> Loading<L> {
+    ghost use Rattle.std.specs.Prelude.{◌≡◌, IfOk};
+    ghost use Rattle.wire.specs.Bags.{size};
+    ghost use Rattle.wire.specs.Questions.{refusal, first_no};
+    ghost use Rattle.memory.specs.Kits.{start_kit};
+    ghost use Rattle.kit.specs.KitQuestions.{making_questions};
+
     /// A kit of `boards` boards and `pages` pages over an empty link.
     pub fn new(link: L, boards: u8, pages: u32) -> Result<Loading<L>, Fault>
         ensures refused { refusal result ≡ first_no (making_questions boards pages (L.limit link) (size (L.waiting link))) }
@@ -36,6 +39,17 @@ impl<L: Link + Drop> Loading<L> {
             link,
         })
     }
+}
+
+impl<L: Link> Loading<L> {
+    ghost use Rattle.std.specs.Prelude.{◌≡◌, ℕ, List, [], MatchResult};
+    ghost use Rattle.wire.specs.Bags.{empty};
+    ghost use Rattle.wire.specs.Questions.{refusal, first_no};
+    ghost use Rattle.memory.specs.Calls.{access_questions};
+    ghost use Rattle.memory.specs.Placements.{Placement, placed, after_placing};
+    ghost use Rattle.kit.specs.Clusters.{over};
+    ghost use Rattle.kit.specs.KitQuestions.{place_questions};
+    ghost use Rattle.kit.specs.Runs.{LeadsTo};
 
     /// Writes a word at board 0, which owns every page until the kit starts.
     // An address and its word are a key and its value, as in a map's `insert`: a struct of them would be taken apart at each call.
@@ -46,5 +60,24 @@ impl<L: Link + Drop> Loading<L> {
             (λ _. self.new ≡ self.old) }
     {
         self.cluster.place(address, word)
+    }
+
+    /// What a load or a store is asked once the kit is started.
+    pub fn ask_access(&self, board: u8, address: u32) -> Result<(), Fault>
+        ensures { refusal result ≡ first_no (access_questions (over self.now.cluster (L.limit self.now.link) (L.waiting self.now.link)) board address) }
+    {
+        self.cluster.ask_access(board, address, &self.link)
+    }
+
+    /// Starts the kit, and uses up the loading one.
+    pub fn start(self) -> Running<L>
+        ensures cluster { result.cluster ≡ self.cluster }
+        ensures link { result.link ≡ self.link }
+        ensures opened { result.opened ≡ 0 }
+        ensures begins { (boards pages : ℕ) (placements : List Placement) → kit_of self.cluster ≡ after_placing boards pages placements → L.waiting self.link ≡ empty →
+            LeadsTo L.Link.limit L.waiting boards pages (L.limit self.link) placements [] result }
+    {
+        let Loading { cluster, link } = self;
+        Running::new(cluster, link)
     }
 }

@@ -4,6 +4,8 @@ ghost use Rattle.kit.specs.Forms.{KitForm};
 use crate::cluster::Cluster;
 use board::answer::{AccessAnswer, Arrival};
 use board::outbox::Outbox;
+use memory::answer::Answer;
+use memory::call::Call;
 use wire::fault::Fault;
 use wire::link::Link;
 
@@ -75,6 +77,24 @@ impl<L: Link> Running<L> {
         let arrival = self.cluster.arrive(&message, &mut out);
         out.send(&mut self.link)?;
         Ok(Some(arrival))
+    }
+
+    /// Carries out a call.
+    pub fn call(&mut self, call: Call) -> Result<Answer, Fault>
+        ensures goes_on { GoesOn L.Link.limit L.waiting L.Choice.joins L.Choice.chooses call result self.old self.new }
+    {
+        match call {
+            Call::Load { board, address } => self.load(board, address).map(Answer::Accessed),
+            Call::Store {
+                board,
+                address,
+                word,
+            } => self.store(board, address, word).map(Answer::Accessed),
+            Call::Deliver { pick } => match self.deliver(pick)? {
+                Some(arrival) => Ok(Answer::Arrived(arrival)),
+                None => Ok(Answer::Quiet),
+            },
+        }
     }
 
     /// How many accesses were opened since the kit was started. The count stops at the largest.

@@ -1,0 +1,6 @@
+use Rattle.std.proofs.Common.{rules}
+use Rattle.kit.proofs.Starting.{placed_still}
+use Rattle.kit.proofs.loading.Loading.place.Goals as goal
+
+pub invariant_of-self : goal.invariant_of-self
+invariant_of-self g c = record { forms = placed_still c.args.self.now.cluster c.place.new.self c.args.address c.args.word c.place.result (search rules) c.place.ensures.placed c.args.self.now.forms }
