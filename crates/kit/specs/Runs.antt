@@ -1,5 +1,5 @@
 -- What a call on a running kit does, and what becomes of every history that led to the kit.
-use Rattle.std.specs.Prelude.{◌≡◌, ℕ, ◌+◌, min, List, [], ◌∷◌, ◌++◌, Some, None, Ok, Err, Option, Result}
+use Rattle.std.specs.Prelude.{◌≡◌, ℕ, ◌+◌, min, List, [], ◌∷◌, ◌++◌, Some, None, Ok, Err, Option, Result, OnErr}
 use Rattle.std.proofs.Common.{inl, inr}
 use Rattle.wire.specs.Bags.{Bag}
 use Rattle.wire.specs.Links.{InTurn}
@@ -65,6 +65,15 @@ taken (Load board address) s answer posted t does = None
 taken (Store board address word) s answer posted t does = None
 taken (Deliver pick) s answer posted t (inl quiet) = None
 taken (Deliver pick) s answer posted t (inr delivers) = Some delivers.message
+
+-- a load or a store that is refused changes nothing, and no more does a quiet delivery
+abbrev pub NothingChanges : {X : Type 0} → Call → Result Answer Fault → X → X → Type 0
+NothingChanges (Load board address) answer before after = OnErr answer (after ≡ before)
+NothingChanges (Store board address word) answer before after = OnErr answer (after ≡ before)
+NothingChanges (Deliver pick) (Ok (Accessed answer)) before after = Unit {0}
+NothingChanges (Deliver pick) (Ok (Arrived arrival)) before after = Unit {0}
+NothingChanges (Deliver pick) (Ok Quiet) before after = after ≡ before
+NothingChanges (Deliver pick) (Err fault) before after = Unit {0}
 
 module _ {L : Type 0} (limit : L → ℕ) (waiting : L → Bag Message) where
   abbrev pub running_of : Running L → calls.Running

@@ -2,6 +2,9 @@ pub mod Steps
 pub mod Digits
 pub mod Records
 pub mod Lines
+pub mod Choosing
 pub mod Plays
-pub mod MadeKits
+pub mod NamedLinks
+pub mod Benches
+pub mod Sessions
 pub mod Laws

@@ -3,8 +3,9 @@ use Rattle.std.specs.Prelude.{ℕ, ◌+◌, ◌-◌, ◌*◌, ◌/◌, ◌%◌, 
 use Rattle.std.specs.List.{between, range_with_len}
 use Rattle.script.specs.Digits.{numeral}
 use Rattle.script.specs.Steps.{◌>>=◌}
+use Rattle.memory.specs.declared.call.Call.TheVariants.{Load, Store, Deliver}
 use Rattle.script.specs.declared.call.Call.{Call}
-use Rattle.script.specs.declared.call.Call.TheVariants.{Kit, Place, Load, Store, Deliver}
+use Rattle.script.specs.declared.call.Call.TheVariants.{Kit, Place, Run}
 use Rattle.script.specs.declared.call.LinkKind.{LinkKind}
 use Rattle.script.specs.declared.call.LinkKind.TheVariants.{Queue, Pool}
 use Rattle.script.specs.declared.numbers.Numbers.{Numbers}
@@ -56,9 +57,9 @@ abbrev pub call_of : ℕ → Numbers → Option Call
 call_of letter n =
     cond (letter == letter_k) (kit_call n.two n.three (link_of n.eight))
     (cond (letter == letter_p) (cond (n.two == 0) (Some (Place n.three n.eight)) None)
-    (cond (letter == letter_l) (cond (n.eight == 0) (Some (Load n.two n.three)) None)
-    (cond (letter == letter_s) (Some (Store n.two n.three n.eight))
-    (cond (letter == letter_d) (cond (n.two == 0 && n.eight == 0) (Some (Deliver n.three)) None) None))))
+    (cond (letter == letter_l) (cond (n.eight == 0) (Some (Run (Load n.two n.three))) None)
+    (cond (letter == letter_s) (Some (Run (Store n.two n.three n.eight)))
+    (cond (letter == letter_d) (cond (n.two == 0 && n.eight == 0) (Some (Run (Deliver n.three))) None) None))))
 
 -- sixteen characters, of which the last two are a space and a newline
 abbrev pub framed : List ℕ → Bool

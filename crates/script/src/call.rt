@@ -3,6 +3,7 @@ ghost use Rattle.std.specs.Option.{ok_or};
 ghost use Rattle.script.specs.Records.{link_number, link_of};
 ghost use Rattle.wire.specs.declared.fault.Fault.TheVariants.{BadForm};
 
+use memory::call::Call as KitCall;
 use wire::fault::Fault;
 
 /// The links that a script can name, with their numbers in scripts and listings.
@@ -47,8 +48,10 @@ pub struct KitPlan {
 #[derive(Clone, Copy)]
 pub enum Call {
     Kit(KitPlan),
-    Place { address: u32, word: u32 },
-    Load { board: u8, address: u32 },
-    Store { board: u8, address: u32, word: u32 },
-    Deliver { pick: u16 },
+    Place {
+        address: u32,
+        word: u32,
+    },
+    /// A call on the running kit, which starts the kit where it is loading.
+    Run(KitCall),
 }

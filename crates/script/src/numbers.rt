@@ -5,3 +5,11 @@ pub struct Numbers {
     pub three: u32,
     pub eight: u32,
 }
+
+impl Numbers {
+    pub const ZERO: Numbers = Numbers {
+        two: 0,
+        three: 0,
+        eight: 0,
+    };
+}

@@ -6,6 +6,7 @@ ghost use Rattle.wire.specs.declared.fault.Fault.TheVariants.{BadForm};
 use crate::call::{Call, KitPlan};
 use crate::digits::{Base, read_number};
 use crate::numbers::Numbers;
+use memory::call::Call as KitCall;
 use wire::fault::Fault;
 
 /// How many characters a record has.
@@ -50,16 +51,16 @@ fn name_call(letter: char, numbers: Numbers) -> Result<Call, Fault>
             address: three,
             word: eight,
         }),
-        'L' if eight == 0 => Ok(Call::Load {
+        'L' if eight == 0 => Ok(Call::Run(KitCall::Load {
             board,
             address: three,
-        }),
-        'S' => Ok(Call::Store {
+        })),
+        'S' => Ok(Call::Run(KitCall::Store {
             board,
             address: three,
             word: eight,
-        }),
-        'D' if two == 0 && eight == 0 => Ok(Call::Deliver { pick: three as u16 }),
+        })),
+        'D' if two == 0 && eight == 0 => Ok(Call::Run(KitCall::Deliver { pick: three as u16 })),
         _ => Err(Fault::BadForm),
     }
 }

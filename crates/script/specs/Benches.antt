@@ -1,0 +1,46 @@
+-- The code's bench, and what a script may have made of it.
+use Rattle.std.specs.Prelude.{◌≡◌, ℕ, List, []}
+use Rattle.wire.specs.Bags.{bag}
+use Rattle.wire.specs.Links.{largest_limit}
+use Rattle.wire.specs.declared.message.Message.{Message}
+use Rattle.memory.specs.Calls as calls
+use Rattle.memory.specs.Histories.{History}
+use Rattle.memory.specs.Kits.{Kit}
+use Rattle.memory.specs.Placements.{Placement, after_placing}
+use Rattle.memory.specs.Reached.{MayBegin, begun, Reached}
+use Rattle.kit.specs.Clusters.{kit_of}
+use Rattle.script.specs.NamedLinks.{kind_of, limit_of, row_of}
+use Rattle.script.specs.Plays as plays
+use Rattle.script.specs.declared.bench.Bench.{Bench}
+use Rattle.script.specs.declared.bench.Bench.TheVariants.{NoKit, Loading, Running}
+
+abbrev pub bench_of : Bench → plays.Bench
+bench_of NoKit = plays.no_kit
+bench_of (Loading k) = plays.loading (kind_of k.link) (kit_of k.cluster)
+bench_of (Running k) = plays.running (kind_of k.link) (kit_of k.cluster) (row_of k.link)
+
+-- a kit over a link of the largest limit
+abbrev pub over_link : Kit → List Message → calls.Running
+over_link k row = record { kit = k; limit = largest_limit; waiting = bag row }
+
+-- a kit that is loading has had words placed; one that is running has had a history since
+pub record Began (k : Kit) : Type 0 where
+  pub boards : ℕ
+  pub pages : ℕ
+  pub placements : List Placement
+  pub may : MayBegin boards pages largest_limit placements
+  pub kit : k ≡ after_placing boards pages placements
+
+pub record Came (k : Kit) (row : List Message) : Type 0 where
+  pub boards : ℕ
+  pub pages : ℕ
+  pub placements : List Placement
+  pub may : MayBegin boards pages largest_limit placements
+  pub history : History
+  pub reached : Reached (begun boards pages largest_limit placements) history (over_link k row)
+
+-- the link is one of the largest limit, on which nothing waits before the start, and the kit has come to be what it is by the calls of kits
+abbrev pub Ready : Bench → Type 0
+Ready NoKit = Unit {0}
+Ready (Loading k) = (limit_of k.link ≡ largest_limit) × (row_of k.link ≡ []) × Began (kit_of k.cluster)
+Ready (Running k) = (limit_of k.link ≡ largest_limit) × Came (kit_of k.cluster) (row_of k.link)

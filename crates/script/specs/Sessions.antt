@@ -1,0 +1,54 @@
+-- The accesses in a script are one memory.
+use Rattle.std.specs.Prelude.{ℕ, cond, List, [], ◌∷◌, ◌++◌, Ok}
+use Rattle.wire.specs.declared.message.Message.{Message}
+use Rattle.memory.specs.Histories.{Event, History}
+use Rattle.memory.specs.OneMemory.{OneMemory}
+use Rattle.memory.specs.Placements.{Placement, array}
+use Rattle.memory.specs.Willing.{Willing}
+use Rattle.script.specs.Plays.{Bench, no_kit, Done, Outcome, accepted, refused, outcome, after, ends}
+use Rattle.script.specs.Records.{records}
+use Rattle.script.specs.declared.answer.Answer.{Answer}
+use Rattle.script.specs.declared.answer.Answer.TheVariants.{Made, Placed, Ran}
+
+abbrev pub done_in : Outcome → List Done
+done_in (accepted done) = done ∷ []
+done_in (refused n) = []
+
+-- what records do that are carried out, one after another, as in the listing
+abbrev pub done_by : Bench → List (List ℕ) → List Done
+done_by s [] = []
+done_by s (r ∷ rs) = done_in (outcome s r) ++ cond (ends (outcome s r) r) [] (done_by (after s (outcome s r)) rs)
+
+-- the word that an answer says was placed, before those placed earlier
+abbrev pub placed_by : Answer → List Placement → List Placement
+placed_by (Made plan) words = words
+placed_by (Placed address word) words = record { address = address; word = word } ∷ words
+placed_by (Ran call answer) words = words
+
+-- the words that were placed, the newest first
+abbrev pub words_after : List Placement → List Done → List Placement
+words_after words [] = words
+words_after words (d ∷ ds) = words_after (placed_by d.answer words) ds
+
+abbrev pub event_of : Answer → List Message → History
+event_of (Made plan) posted = []
+event_of (Placed address word) posted = []
+event_of (Ran call answer) posted = record { call = call; answer = Ok answer; posted = posted } ∷ []
+
+-- the calls on the running kit, with the answers that their lines tell and the messages that they post
+abbrev pub history_of : List Done → History
+history_of [] = []
+history_of (d ∷ ds) = event_of d.answer d.posted ++ history_of ds
+
+-- what was done first made a kit, and all that it answered since is one memory, and that of a willing kit
+abbrev pub OneMemorySince : Answer → List Done → Type 0
+OneMemorySince (Made plan) ds = OneMemory plan.boards (array (words_after [] ds)) (history_of ds) × Willing plan.boards plan.pages (array (words_after [] ds)) (history_of ds)
+OneMemorySince (Placed address word) ds = ⊥
+OneMemorySince (Ran call answer) ds = ⊥
+
+abbrev pub KeepsOneMemory : List Done → Type 0
+KeepsOneMemory [] = Unit {0}
+KeepsOneMemory (d ∷ ds) = OneMemorySince d.answer ds
+
+abbrev pub SessionKeepsOneMemory : List ℕ → Type 0
+SessionKeepsOneMemory script = KeepsOneMemory (done_by no_kit (records script))
