@@ -44,3 +44,14 @@ abbrev pub Ready : Bench → Type 0
 Ready NoKit = Unit {0}
 Ready (Loading k) = (limit_of k.link ≡ largest_limit) × (row_of k.link ≡ []) × Began (kit_of k.cluster)
 Ready (Running k) = (limit_of k.link ≡ largest_limit) × Came (kit_of k.cluster) (row_of k.link)
+
+abbrev pub IsRunning : Bench → Type 0
+IsRunning NoKit = ⊥
+IsRunning (Loading k) = ⊥
+IsRunning (Running k) = Unit {0}
+
+-- the kit that was loading is running, with nothing on its link
+abbrev pub Starts : Bench → Bench → Type 0
+Starts NoKit after = after ≡ NoKit
+Starts (Loading k) after = (bench_of after ≡ plays.running (kind_of k.link) (kit_of k.cluster) []) × IsRunning after × Ready after
+Starts (Running k) after = after ≡ Running k

@@ -1,8 +1,12 @@
 -- Laws of records, answers and listings.
-use Rattle.std.specs.Prelude.{◌≡◌, ℕ, ◌*◌, ◌^◌, ◌<◌, ◌≤◌, List, [], ◌∷◌, ◌++◌, length, Some}
+use Rattle.std.specs.Prelude.{◌≡◌, ℕ, ◌*◌, ◌^◌, ◌<◌, ◌≤◌, List, [], ◌∷◌, ◌++◌, length, Some, None, Option}
 use Rattle.std.specs.List.{between}
+use Rattle.board.specs.declared.answer.AccessAnswer.TheVariants.{Answered, Opened}
+use Rattle.memory.specs.declared.answer.Answer.TheVariants.{Accessed, Arrived, Quiet}
+use Rattle.script.specs.declared.answer.Answer.{Answer}
+use Rattle.script.specs.declared.answer.Answer.TheVariants.{Made, Placed, Ran}
 use Rattle.script.specs.Digits.{digits, numeral}
-use Rattle.script.specs.Lines.{line_of, text, letter_a}
+use Rattle.script.specs.Lines.{line_of, text, letter_a, letter_o}
 use Rattle.script.specs.Plays.{Bench, Done, outcome, accepted, listing}
 use Rattle.script.specs.Records.{record_count}
 
@@ -13,9 +17,18 @@ ReadBack = (base width n : ℕ) → 1 < base → base ≤ 16 → n < base ^ widt
 abbrev pub WrittenBack : Type 0
 WrittenBack = (base : ℕ) (cs : List ℕ) (n : ℕ) → 1 < base → base ≤ 16 → numeral base cs ≡ Some n → digits base (length cs) n ≡ cs
 
--- K and P are echoed: A, the digits of the record again, no hops
+-- the letter of an answer whose line has the digits of its record again: A of K and P, and O
+abbrev pub echo_letter : Answer → Option ℕ
+echo_letter (Made plan) = Some letter_a
+echo_letter (Placed address word) = Some letter_a
+echo_letter (Ran call (Accessed (Answered word))) = None
+echo_letter (Ran call (Accessed Opened)) = Some letter_o
+echo_letter (Ran call (Arrived arrival)) = None
+echo_letter (Ran call Quiet) = None
+
+-- such a line has no hops
 abbrev pub Echoed : Type 0
-Echoed = (s : Bench) (r : List ℕ) (done : Done) → outcome s r ≡ accepted done → text (line_of done.answer) ≡ letter_a ∷ between 1 14 r ++ 48 ∷ 10 ∷ []
+Echoed = (s : Bench) (r : List ℕ) (done : Done) (letter : ℕ) → outcome s r ≡ accepted done → echo_letter done.answer ≡ Some letter → text (line_of done.answer) ≡ letter ∷ between 1 14 r ++ 48 ∷ 10 ∷ []
 
 -- a listing is whole lines of sixteen characters, at most one for each record
 abbrev pub WholeLines : Type 0

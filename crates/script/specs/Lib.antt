@@ -6,5 +6,6 @@ pub mod Choosing
 pub mod Plays
 pub mod NamedLinks
 pub mod Benches
+pub mod Turns
 pub mod Sessions
 pub mod Laws

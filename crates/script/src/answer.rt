@@ -1,6 +1,6 @@
 ghost use Rattle.std.specs.Prelude.{◌≡◌};
 ghost use Rattle.wire.specs.Faults.{number};
-ghost use Rattle.script.specs.Lines.{line_of, refused_line, numbers_of, ran_line};
+ghost use Rattle.script.specs.Lines.{line_of, refused_line, numbers_of, arrival_line, ran_line};
 
 use crate::call::KitPlan;
 use crate::line::Line;

@@ -2,7 +2,9 @@ ghost use Rattle.std.specs.Prelude.{◌≡◌, ◌+◌, ◌*◌, ◌≤◌, ◌+
 ghost use Rattle.script.specs.Lines.{text};
 ghost use Rattle.script.specs.Plays.{no_kit, answers, listing};
 ghost use Rattle.script.specs.Records.{record_count, records};
+ghost use Rattle.script.specs.Sessions.{SessionKeepsOneMemory};
 
+use crate::bench::Bench;
 use crate::line::Line;
 use crate::record::RECORD_LENGTH;
 use crate::turn::turn;
@@ -23,7 +25,7 @@ fn play_records(script: &[u8], listing: &mut Vec<u8>)
     requires { vec_len listing.old + 16 * record_count script.now ≤ vec_capacity listing.old }
     ensures { listing.new.items ≡ listing.old.items ++ answers no_kit (records script.now) }
 {
-    let mut bench = None;
+    let mut bench = Bench::NoKit;
     for text in script.chunks(RECORD_LENGTH) {
         match turn(&mut bench, text) {
             Ok(answer) => add_line(listing, answer.into()),
@@ -39,7 +41,8 @@ fn play_records(script: &[u8], listing: &mut Vec<u8>)
 
 /// The listing of a whole script, from its bytes to the bytes of the answers. Memory for it is asked for before anything is played.
 pub fn play(heap: Global, script: &[u8]) -> Result<Vec<u8>, AllocError>
-    ensures { IfOk result (λ v. v.items ≡ listing script.now) }
+    ensures listing { IfOk result (λ v. v.items ≡ listing script.now) }
+    ensures one_memory { SessionKeepsOneMemory script.now }
 {
     // Each record is answered by a line at most.
     let mut listing = Vec::with_capacity(heap, 16 * script.len().div_ceil(RECORD_LENGTH))?;
