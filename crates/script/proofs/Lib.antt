@@ -1,9 +1,11 @@
 pub mod Numerals
 pub mod Scripts
 pub mod Listings
+mod Beginnings
 mod Rows
 mod Runs
 mod KitCalls
 pub mod Turns
+mod Sessions
 pub mod Undoing
 pub mod Echoes

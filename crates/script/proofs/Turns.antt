@@ -1,10 +1,8 @@
 -- What a record makes of the bench.
-use Rattle.std.proofs.Common.{◌≡◌, ℕ, ◌+◌, ◌*◌, nat_lt, nat_le, Bool, true, false, cond, ◌⊎◌, inl, inr, List, [], ◌∷◌, is_some, ok_or, option_and_then, slice_index, Some, None, Ok, Err, Option, Result, refl, ap, ◌∙◌, sym, subst}
-use Rattle.std.proofs.lemmas.Bool.{ltb-true, leb-true, and_parts}
+use Rattle.std.proofs.Common.{◌≡◌, ℕ, Bool, true, cond, ◌⊎◌, inl, inr, List, [], ◌∷◌, is_some, ok_or, option_and_then, slice_index, Some, None, Ok, Err, Option, Result, refl, ap, ◌∙◌, sym, subst}
 use Rattle.wire.specs.Bags.{Bag, bag, size}
 use Rattle.wire.specs.Links.{largest_limit}
-use Rattle.wire.specs.Questions.{first_no, refusal, inside}
-use Rattle.wire.proofs.Questions.{yes}
+use Rattle.wire.specs.Questions.{first_no, refusal}
 use Rattle.wire.specs.Faults.{number}
 use Rattle.wire.specs.declared.fault.Fault.{Fault}
 use Rattle.wire.specs.declared.fault.Fault.TheVariants.{BadForm}
@@ -15,12 +13,13 @@ use Rattle.memory.specs.declared.call.Call.TheVariants.{Load, Store, Deliver}
 use Rattle.memory.specs.Calls as calls
 use Rattle.memory.specs.Kits.{start_kit}
 use Rattle.memory.specs.Kits as kits
-use Rattle.memory.specs.Placements.{Placement, placed, after_placing}
+use Rattle.memory.specs.Placements.{placed}
 use Rattle.kit.specs.Clusters.{kit_of}
 use Rattle.kit.specs.KitQuestions.{making_questions, place_questions}
 use Rattle.kit.specs.Runs.{NothingChanges}
 use Rattle.kit.specs.declared.loading.Loading as loading
 use Rattle.kit.specs.declared.running.Running as running
+use Rattle.script.proofs.Beginnings.{made_may, placed_may}
 use Rattle.script.proofs.Runs.{passed_after}
 use Rattle.script.proofs.KitCalls.{Runs, asks, said, came_on}
 use Rattle.script.specs.Benches.{bench_of, Ready, Starts}
@@ -106,21 +105,11 @@ module _ (before : Bench) (r t : running.Running NamedLink) (call : KitCall) (st
       subst (λ x. Turns (Some (Run call)) before x (Running t)) (sym rises)
       (record { refused = here ∙ sym stands.asked; done = tt; kept = ap (λ x. Running x) stays ∙ kept; ready = subst (λ x. Ready (Running x)) (sym stays) stands.ready })
 
-yes_alone : (n : ℕ) (b : Bool) → None ≡ first_no ((n, b) ∷ []) → b ≡ true
-yes_alone n true h = refl
-yes_alone n false h = absurd (not_none n None (sym h) refl)
-
 -- a word is placed
-pages_kept : (n p : ℕ) (words : List Placement) → (after_placing n p words).pages ≡ p
-pages_kept n p [] = refl
-pages_kept n p (w ∷ ws) = pages_kept n p ws
-
 pub placed_turns : (k t : loading.Loading NamedLink) (address word : ℕ) → Ready (Loading k) → None ≡ first_no (place_questions (kit_of k.cluster).pages address) → kit_of t.cluster ≡ placed (kit_of k.cluster) address word → t.link ≡ k.link →
     Turns (Some (Place address word)) (Loading k) (Ok (Placed address word)) (Loading t)
 placed_turns k t address word ready passed kit link =
     let b = ready.2 in
-    let pages : (kit_of k.cluster).pages ≡ b.pages = ap (λ (x : kits.Kit). x.pages) b.kit ∙ pages_kept b.boards b.pages b.placements in
-    let inside : nat_lt address (16 * b.pages) ≡ true = ap (λ x. nat_lt address (16 * x)) (sym pages) ∙ yes_alone 2 (nat_lt address (16 * (kit_of k.cluster).pages)) passed in
     record {
       refused = passed;
       done = ([], rw (kit, link) refl);
@@ -129,7 +118,7 @@ placed_turns k t address word ready passed kit link =
         boards = b.boards;
         pages = b.pages;
         placements = record { address = address; word = word } ∷ b.placements;
-        may = record { some_boards = b.may.some_boards; boards = b.may.boards; some_pages = b.may.some_pages; pages = b.may.pages; room = b.may.room; in_range = (ltb-true address (16 * b.pages) inside, b.may.in_range) };
+        may = placed_may b.boards b.pages b.placements (kit_of k.cluster) address word b.kit (sym passed) b.may;
         kit = kit ∙ ap (λ x. placed x address word) b.kit;
       });
     }
@@ -137,27 +126,12 @@ placed_turns k t address word ready passed kit link =
 -- a kit is made
 pub made_turns : (plan : KitPlan) (t : loading.Loading NamedLink) → None ≡ first_no (making_questions plan.boards plan.pages largest_limit 0) → kit_of t.cluster ≡ start_kit plan.boards plan.pages →
     kind_of t.link ≡ plan.link → limit_of t.link ≡ largest_limit → row_of t.link ≡ [] → Turns (Some (Kit plan)) NoKit (Ok (Made plan)) (Loading t)
-made_turns plan t passed kit kind limit row =
-    let n = plan.boards in
-    let p = plan.pages in
-    let rest6 = (6, nat_le (n * n + 16) largest_limit) ∷ (7, true) ∷ [] in
-    let four = yes 4 (inside 1 16 n) ((5, inside 1 16 p) ∷ rest6) (sym passed) in
-    let five = yes 5 (inside 1 16 p) rest6 four.1 in
-    let six = yes 6 (nat_le (n * n + 16) largest_limit) ((7, true) ∷ []) five.1 in
-    let boards = and_parts (nat_le 1 n) (nat_le n 16) four.0 in
-    let pages = and_parts (nat_le 1 p) (nat_le p 16) five.0 in
-    record {
-      refused = passed;
-      done = ([], rw (kit, kind) refl);
-      kept = tt;
-      ready = (limit, row, record {
-        boards = n;
-        pages = p;
-        placements = [];
-        may = record { some_boards = leb-true 1 n boards.0; boards = leb-true n 16 boards.1; some_pages = leb-true 1 p pages.0; pages = leb-true p 16 pages.1; room = leb-true (n * n + 16) largest_limit six.0; in_range = tt };
-        kit = kit;
-      });
-    }
+made_turns plan t passed kit kind limit row = record {
+  refused = passed;
+  done = ([], rw (kit, kind) refl);
+  kept = tt;
+  ready = (limit, row, record { boards = plan.boards; pages = plan.pages; placements = []; may = made_may plan.boards plan.pages (sym passed); kit = kit });
+}
 
 -- what a kit over the link of a script is asked before it starts
 pub asked_first : (k : kits.Kit) (call : KitCall) (board address limit : ℕ) (waiting : Bag Message) (result : Result (Unit {0}) Fault) → (call ≡ Load board address) ⊎ ((word : ℕ) × (call ≡ Store board address word)) →
