@@ -1,6 +1,6 @@
 -- A call on the code's running kit, over the link of a script, is what the bench says.
-use Rattle.std.proofs.Common.{◌≡◌, ℕ, List, [], ◌∷◌, ◌++◌, length, Some, None, Ok, Err, Option, Result, refl, ap, ◌∙◌, sym, subst, inl, inr, append-nil}
-use Rattle.wire.specs.Bags.{Bag, bag}
+use Rattle.std.proofs.Common.{◌≡◌, ℕ, List, [], ◌∷◌, ◌++◌, length, Ok, Option, Result, refl, ap, ◌∙◌, subst, inl, inr}
+use Rattle.wire.specs.Bags.{bag}
 use Rattle.wire.specs.Links.{largest_limit, Chosen, InTurn}
 use Rattle.wire.specs.Questions.{first_no, refusal}
 use Rattle.wire.specs.declared.fault.Fault.{Fault}
@@ -8,7 +8,7 @@ use Rattle.wire.specs.declared.message.Message.{Message}
 use Rattle.lone.specs.Calls as lone
 use Rattle.memory.specs.Calls.{Running as State, DoesCall}
 use Rattle.memory.specs.Histories.{Event}
-use Rattle.memory.specs.Kits.{Kit, board_at}
+use Rattle.memory.specs.Kits.{board_at}
 use Rattle.memory.specs.Reached.{Reached, begun, onward}
 use Rattle.memory.specs.declared.answer.Answer.{Answer as KitAnswer}
 use Rattle.memory.specs.declared.call.Call.{Call as KitCall}

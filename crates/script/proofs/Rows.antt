@@ -1,10 +1,10 @@
 -- Rows of messages that a script's links hold.
-use Rattle.std.proofs.Common.{◌≡◌, ℕ, zero, suc, ◌+◌, ◌<◌, ◌≤◌, List, [], ◌∷◌, ◌++◌, length, get_or, Some, None, Ok, Err, Option, Result, refl, ap, ◌∙◌, sym, subst, arith, append_assoc, append-nil}
+use Rattle.std.proofs.Common.{◌≡◌, ℕ, zero, suc, ◌<◌, ◌≤◌, List, [], ◌∷◌, ◌++◌, length, get_or, Some, Result, refl, ap, ◌∙◌, sym, subst, arith, append_assoc, append-nil}
 use Rattle.std.specs.List.{insert, remove}
 use Rattle.wire.specs.Links.{InTurn, Joins, Chosen}
 use Rattle.wire.specs.declared.fault.Fault.{Fault}
 use Rattle.wire.specs.declared.message.Message.{Message}
-use Rattle.script.specs.Choosing.{Taken, taken_at}
+use Rattle.script.specs.Choosing.{taken_at}
 use Rattle.script.specs.NamedLinks.{kind_of, row_of}
 use Rattle.script.specs.declared.named_link.NamedLink.{NamedLink}
 

@@ -1,32 +1,26 @@
 -- What a call on the running kit of a script does: what its bench says.
-use Rattle.std.proofs.Common.{◌≡◌, ℕ, ◌+◌, ◌<◌, Bool, true, false, nat_lt, List, [], ◌∷◌, ◌++◌, length, Some, None, Ok, Err, Option, Result, refl, ap, ◌∙◌, sym, subst, inl, inr, append-nil}
-use Rattle.std.specs.Prelude.{OnErr, MatchResult}
-use Rattle.wire.specs.Bags.{Bag, bag, empty, ◌&◌}
-use Rattle.wire.specs.Links.{largest_limit, Chosen, InTurn}
+use Rattle.std.proofs.Common.{◌≡◌, ℕ, Bool, true, false, List, [], ◌∷◌, ◌++◌, length, Some, None, Ok, Result, refl, ap, ◌∙◌, inl, inr}
+use Rattle.wire.specs.Bags.{bag}
+use Rattle.wire.specs.Links.{largest_limit, Chosen}
 use Rattle.wire.specs.Questions.{first_no, refusal}
-use Rattle.wire.specs.Faults.{number}
 use Rattle.wire.specs.declared.fault.Fault.{Fault}
 use Rattle.wire.specs.declared.message.Message.{Message}
 use Rattle.board.specs.declared.answer.AccessAnswer.{AccessAnswer}
 use Rattle.lone.specs.Calls as lone
-use Rattle.lone.specs.LoneQuestions as asks
 use Rattle.memory.specs.Calls.{Running as State, Answers, Delivers, DoesCall, IsQuiet, room, without, arrival_questions}
 use Rattle.memory.specs.Calls as calls
-use Rattle.memory.specs.Histories.{Event}
-use Rattle.memory.specs.Kits.{Kit, board_at, with_board}
+use Rattle.memory.specs.Kits.{Kit}
 use Rattle.memory.specs.Promises.{NothingIsRefused}
-use Rattle.memory.specs.Reached.{Reached, onward}
 use Rattle.memory.specs.declared.answer.Answer.{Answer as KitAnswer}
-use Rattle.memory.specs.declared.answer.Answer.TheVariants.{Accessed, Arrived, Quiet}
+use Rattle.memory.specs.declared.answer.Answer.TheVariants.{Accessed, Quiet}
 use Rattle.memory.specs.declared.call.Call.{Call as KitCall}
-use Rattle.memory.specs.declared.call.Call.TheVariants.{Load, Store, Deliver}
+use Rattle.memory.specs.declared.call.Call.TheVariants.{Deliver}
 use Rattle.memory.proofs.OneMemory.{never_refuses}
 use Rattle.script.proofs.Rows.{taken_is}
 use Rattle.script.specs.Benches.{over_link, Came}
-use Rattle.script.specs.Choosing.{Taken, taken_at, taken, place_of}
+use Rattle.script.specs.Choosing.{taken, place_of}
 use Rattle.script.specs.Plays as plays
 use Rattle.script.specs.Plays.{Done, access_questions, accessed, arrived, delivered, ran, run_questions}
-use Rattle.script.specs.declared.answer.Answer.{Answer}
 use Rattle.script.specs.declared.answer.Answer.TheVariants.{Ran}
 use Rattle.script.specs.declared.call.LinkKind.{LinkKind}
 

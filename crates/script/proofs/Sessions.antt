@@ -1,5 +1,5 @@
 -- The accesses in a script are one memory: the calls that it carries out are a history of its kit.
-use Rattle.std.proofs.Common.{◌≡◌, ℕ, zero, suc, ◌+◌, ◌<◌, ◌%◌, Bool, true, false, cond, List, [], ◌∷◌, ◌++◌, length, get_or, Some, None, Ok, Option, refl, ap, ◌∙◌, sym, subst, inl, inr, arith, mod-lt, append_assoc, append-nil, option_and_then}
+use Rattle.std.proofs.Common.{◌≡◌, ℕ, suc, ◌<◌, Bool, true, false, cond, List, [], ◌∷◌, ◌++◌, length, get_or, Some, None, Ok, Option, refl, ap, ◌∙◌, sym, subst, inl, inr, arith, mod-lt, append_assoc, append-nil, option_and_then}
 use Rattle.std.proofs.lemmas.Option.{same_Some}
 use Rattle.std.specs.List.{remove}
 use Rattle.wire.specs.Bags.{Bag, bag, empty, ◌&◌, ◌⊕◌}
@@ -13,11 +13,9 @@ use Rattle.memory.specs.Calls.{Running as State, Answers, DoesCall, Does, room}
 use Rattle.memory.specs.Calls as calls
 use Rattle.memory.specs.Histories.{Event, History}
 use Rattle.memory.specs.Kits.{Kit, start_kit, board_at, with_board}
-use Rattle.memory.specs.OneMemory.{OneMemory}
-use Rattle.memory.specs.Placements.{Placement, array, placed, after_placing}
+use Rattle.memory.specs.Placements.{Placement, placed, after_placing}
 use Rattle.memory.specs.Promises.{NothingIsRefused}
 use Rattle.memory.specs.Reached.{MayBegin, begun, Reached, started, onward}
-use Rattle.memory.specs.Willing.{Willing}
 use Rattle.memory.specs.declared.answer.Answer.{Answer as KitAnswer}
 use Rattle.memory.specs.declared.answer.Answer.TheVariants.{Accessed, Arrived, Quiet}
 use Rattle.memory.specs.declared.call.Call.{Call as KitCall}
@@ -27,7 +25,7 @@ use Rattle.kit.specs.KitQuestions.{place_questions}
 use Rattle.script.proofs.Beginnings.{made_may, placed_may}
 use Rattle.script.proofs.Runs.{passed_after}
 use Rattle.script.specs.Benches.{over_link}
-use Rattle.script.specs.Choosing.{Taken, taken, taken_at, place_of}
+use Rattle.script.specs.Choosing.{taken, place_of}
 use Rattle.script.specs.Plays.{Bench, no_kit, loading, running, Done, Outcome, accepted, refused, decided, outcome, after, ends, carried_out, record_questions, access_questions, run_questions, ran, delivered}
 use Rattle.script.specs.Records.{form, records}
 use Rattle.script.specs.Sessions.{done_in, done_by, placed_by, words_after, event_of, history_of, OneMemorySince, KeepsOneMemory, SessionKeepsOneMemory}
@@ -149,9 +147,9 @@ module _ (plan : KitPlan) where
       record {
         may = subst (MayBegin plan.boards plan.pages largest_limit) (sym words) may;
         tells =
-          subst (λ s. Tells s (words_after [] (ds ++ done ∷ [])) (history_of (ds ++ done ∷ []))) (sym (ap (λ (d : Done). d.bench) f.says))
-          (subst (λ w. Reached (first w) (history_of (ds ++ done ∷ [])) (over_link f.kit f.after)) (sym words)
-          (subst (λ h. Reached (first (words_after [] ds)) h (over_link f.kit f.after)) (sym history) (onward e reached f.does)));
+            subst (λ s. Tells s (words_after [] (ds ++ done ∷ [])) (history_of (ds ++ done ∷ []))) (sym (ap (λ (d : Done). d.bench) f.says))
+            (subst (λ w. Reached (first w) (history_of (ds ++ done ∷ [])) (over_link f.kit f.after)) (sym words)
+            (subst (λ h. Reached (first (words_after [] ds)) h (over_link f.kit f.after)) (sym history) (onward e reached f.does)));
       }
 
   -- a word is placed

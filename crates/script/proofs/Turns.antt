@@ -101,7 +101,7 @@ module _ (before : Bench) (r t : running.Running NamedLink) (call : KitCall) (st
       let came = stands.ready.1 in
       let here = asks r t limit came call (Err fault) g in
       let stays = still r t call fault here same in
-      let kept : Running r ≡ before = elim stands.kept [ | inl none ↦ absurd (not_none (number fault) (first_no (run_questions (kit_of r.cluster) call)) here none) | inr e ↦ e ] in
+      let kept : Running r ≡ before = elim stands.kept [ inl none ↦ absurd (not_none (number fault) (first_no (run_questions (kit_of r.cluster) call)) here none) | inr e ↦ e ] in
       subst (λ x. Turns (Some (Run call)) before x (Running t)) (sym rises)
       (record { refused = here ∙ sym stands.asked; done = tt; kept = ap (λ x. Running x) stays ∙ kept; ready = subst (λ x. Ready (Running x)) (sym stays) stands.ready })
 
@@ -114,13 +114,17 @@ placed_turns k t address word ready passed kit link =
       refused = passed;
       done = ([], rw (kit, link) refl);
       kept = tt;
-      ready = (ap limit_of link ∙ ready.0, ap row_of link ∙ ready.1, record {
-        boards = b.boards;
-        pages = b.pages;
-        placements = record { address = address; word = word } ∷ b.placements;
-        may = placed_may b.boards b.pages b.placements (kit_of k.cluster) address word b.kit (sym passed) b.may;
-        kit = kit ∙ ap (λ x. placed x address word) b.kit;
-      });
+      ready = (
+        ap limit_of link ∙ ready.0,
+        ap row_of link ∙ ready.1,
+        record {
+          boards = b.boards;
+          pages = b.pages;
+          placements = record { address = address; word = word } ∷ b.placements;
+          may = placed_may b.boards b.pages b.placements (kit_of k.cluster) address word b.kit (sym passed) b.may;
+          kit = kit ∙ ap (λ x. placed x address word) b.kit;
+        },
+      );
     }
 
 -- a kit is made
@@ -139,7 +143,7 @@ pub asked_first : (k : kits.Kit) (call : KitCall) (board address limit : ℕ) (w
     refusal result ≡ first_no (run_questions k call)
 asked_first k call board address limit waiting result is asks room =
     let asked = asks ∙ passed_after (access_questions k board address) (calls.room (record { kit = k; limit = limit; waiting = waiting })) room in
-    elim is [ | inl e ↦ asked ∙ ap (λ x. first_no (run_questions k x)) (sym e) | inr e ↦ asked ∙ ap (λ x. first_no (run_questions k x)) (sym e.1) ]
+    elim is [ inl e ↦ asked ∙ ap (λ x. first_no (run_questions k x)) (sym e) | inr e ↦ asked ∙ ap (λ x. first_no (run_questions k x)) (sym e.1) ]
 
 -- over an empty link of the largest limit
 module _ (link : NamedLink) (limit : limit_of link ≡ largest_limit) (row : row_of link ≡ []) where

@@ -1,7 +1,7 @@
 -- The accesses in a script are one memory.
 use Rattle.std.specs.Prelude.{ℕ, cond, List, [], ◌∷◌, ◌++◌, Ok}
 use Rattle.wire.specs.declared.message.Message.{Message}
-use Rattle.memory.specs.Histories.{Event, History}
+use Rattle.memory.specs.Histories.{History}
 use Rattle.memory.specs.OneMemory.{OneMemory}
 use Rattle.memory.specs.Placements.{Placement, array}
 use Rattle.memory.specs.Willing.{Willing}

@@ -48,10 +48,7 @@ pub struct KitPlan {
 #[derive(Clone, Copy)]
 pub enum Call {
     Kit(KitPlan),
-    Place {
-        address: u32,
-        word: u32,
-    },
+    Place { address: u32, word: u32 },
     /// A call on the running kit, which starts the kit where it is loading.
     Run(KitCall),
 }

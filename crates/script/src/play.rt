@@ -40,6 +40,7 @@ fn play_records(script: &[u8], listing: &mut Vec<u8>)
 }
 
 /// The listing of a whole script, from its bytes to the bytes of the answers. Memory for it is asked for before anything is played.
+#[tactic(auto, using(crate::proofs::Sessions::session_keeps))]
 pub fn play(heap: Global, script: &[u8]) -> Result<Vec<u8>, AllocError>
     ensures listing { IfOk result (λ v. v.items ≡ listing script.now) }
     ensures one_memory { SessionKeepsOneMemory script.now }

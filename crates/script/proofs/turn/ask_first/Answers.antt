@@ -1,4 +1,3 @@
-use Rattle.std.proofs.Common.{rules}
 use Rattle.wire.specs.Bags.{bag}
 use Rattle.script.specs.NamedLinks.{limit_of, row_of}
 use Rattle.kit.specs.Clusters.{kit_of}
