@@ -12,7 +12,8 @@ use Rattle.lone.specs.Calls.{Outcome, load_at, store_at, arrive_at}
 use Rattle.memory.specs.Calls.{Answers, Delivers, DoesCall, access_questions, arrival_questions, without}
 use Rattle.memory.specs.Histories.{History, Event}
 use Rattle.memory.specs.Kits.{board_at, with_board}
-use Rattle.memory.specs.Placements.{Placement, after_placing}
+use Rattle.memory.specs.Placements.{after_placing}
+use Rattle.memory.specs.declared.placement.Placement.{Placement}
 use Rattle.memory.specs.Reached.{MayBegin, begun, Reached, started, onward}
 use Rattle.memory.specs.declared.answer.Answer.{Answer}
 use Rattle.memory.specs.declared.answer.Answer.TheVariants.{Accessed, Arrived, Quiet}
