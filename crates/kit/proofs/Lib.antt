@@ -1,6 +1,7 @@
 pub mod WorkedCases
 mod Nodes
 mod Numbers
+mod Playing
 mod Runs
 mod Starting
 mod Empty

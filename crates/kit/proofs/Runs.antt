@@ -1,6 +1,6 @@
 -- What a call does goes on every history that led to the kit.
-use Rattle.std.proofs.Common.{◌≡◌, ℕ, ◌+◌, ◌<◌, min, List, [], ◌∷◌, ◌++◌, Some, None, Ok, Err, Option, Result, refl, ap, ◌∙◌, sym, subst, inl, inr, arith}
-use Rattle.wire.specs.Bags.{Bag, ◌&◌, empty}
+use Rattle.std.proofs.Common.{◌≡◌, ℕ, ◌+◌, List, [], ◌∷◌, ◌++◌, Some, None, Ok, Err, Option, Result, refl, ap, ◌∙◌, sym, subst, inl, inr, arith}
+use Rattle.wire.specs.Bags.{Bag, empty}
 use Rattle.wire.specs.Links.{Sent, InTurn, Taken}
 use Rattle.wire.specs.Questions.{first_no, refusal}
 use Rattle.wire.specs.declared.fault.Fault.{Fault}
@@ -11,16 +11,16 @@ use Rattle.board.specs.declared.answer.Arrival.{Arrival}
 use Rattle.lone.specs.Calls.{Outcome, load_at, store_at, arrive_at}
 use Rattle.memory.specs.Calls.{Answers, Delivers, DoesCall, access_questions, arrival_questions, without}
 use Rattle.memory.specs.Histories.{History, Event}
-use Rattle.memory.specs.Kits.{board_at, with_board}
-use Rattle.memory.specs.Placements.{Placement, after_placing}
+use Rattle.memory.specs.Kits.{board_at}
+use Rattle.memory.specs.Placements.{after_placing}
+use Rattle.memory.specs.declared.placement.Placement.{Placement}
 use Rattle.memory.specs.Reached.{MayBegin, begun, Reached, started, onward}
 use Rattle.memory.specs.declared.answer.Answer.{Answer}
 use Rattle.memory.specs.declared.answer.Answer.TheVariants.{Accessed, Arrived, Quiet}
-use Rattle.memory.specs.declared.call.Call.{Call}
 use Rattle.memory.specs.declared.call.Call.TheVariants.{Load, Store, Deliver}
 use Rattle.memory.proofs.OneMemory.{is_one_memory, is_willing, never_refuses}
 use Rattle.kit.specs.Clusters.{kit_of, over}
-use Rattle.kit.specs.Runs.{opened_by, openings, counted, opened_after, running_of, LeadsTo, Kept, LinkDoes, GoesOn, accessed, delivered}
+use Rattle.kit.specs.Runs.{opened_by, openings, counted, opened_after, running_of, LeadsTo, Kept, GoesOn, accessed, delivered}
 use Rattle.kit.specs.Steps.{Steps}
 use Rattle.kit.specs.declared.running.Running.{Running}
 
@@ -36,17 +36,23 @@ counted_on n (Ok Quiet) = omega arith
 counted_on n (Err fault) = omega arith
 
 module _ {L : Type 0} (limit : L → ℕ) (waiting : L → Bag Message) where
+  -- what a history leads to is kept
+  pub kept_of : (n p first_limit : ℕ) (placements : List Placement) → MayBegin n p first_limit placements → (history : History) (r : Running L) → LeadsTo limit waiting n p first_limit placements history r →
+      Kept limit waiting n p first_limit placements history r
+  kept_of n p first_limit placements begins history r leads = record {
+    leads = leads;
+    one_memory = is_one_memory n p first_limit placements begins history (running_of limit waiting r) leads.reached;
+    willing = is_willing n p first_limit placements begins history (running_of limit waiting r) leads.reached;
+    not_refused = never_refuses n p first_limit placements begins history (running_of limit waiting r) leads.reached;
+  }
+
   pub keeps : (e : Event) (r t : Running L) → DoesCall e.call (running_of limit waiting r) e.answer e.posted (running_of limit waiting t) → t.opened ≡ opened_after r.opened e.answer →
       (n p first_limit : ℕ) (placements : List Placement) → MayBegin n p first_limit placements → (history : History) → LeadsTo limit waiting n p first_limit placements history r →
       Kept limit waiting n p first_limit placements (history ++ e ∷ []) t
-  keeps e r t does opened n p first_limit placements begins history leads =
-      let reached = onward e leads.reached does in
-      record {
-        leads = record { reached = reached; opened = opened ∙ ap (λ x. opened_after x e.answer) leads.opened ∙ counted_on (openings history) e.answer ∙ ap counted (sym (openings_after history e)) };
-        one_memory = is_one_memory n p first_limit placements begins (history ++ e ∷ []) (running_of limit waiting t) reached;
-        willing = is_willing n p first_limit placements begins (history ++ e ∷ []) (running_of limit waiting t) reached;
-        not_refused = never_refuses n p first_limit placements begins (history ++ e ∷ []) (running_of limit waiting t) reached;
-      }
+  keeps e r t does opened n p first_limit placements begins history leads = kept_of n p first_limit placements begins (history ++ e ∷ []) t (record {
+    reached = onward e leads.reached does;
+    opened = opened ∙ ap (λ x. opened_after x e.answer) leads.opened ∙ counted_on (openings history) e.answer ∙ ap counted (sym (openings_after history e));
+  })
 
   -- a load or a store that is not refused
   access_answers : (board address : ℕ) (o : Outcome AccessAnswer) (r t : Running L) (posts : List Message) (answer : AccessAnswer) →

@@ -16,7 +16,8 @@ use Rattle.memory.specs.Calls as calls
 use Rattle.memory.specs.Calls.{DoesCall}
 use Rattle.memory.specs.Histories.{History}
 use Rattle.memory.specs.OneMemory.{OneMemory}
-use Rattle.memory.specs.Placements.{Placement, array}
+use Rattle.memory.specs.Placements.{array}
+use Rattle.memory.specs.declared.placement.Placement.{Placement}
 use Rattle.memory.specs.Promises.{NothingIsRefused}
 use Rattle.memory.specs.Reached.{MayBegin, begun, Reached}
 use Rattle.memory.specs.Willing.{Willing}

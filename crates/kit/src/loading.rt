@@ -46,7 +46,8 @@ impl<L: Link> Loading<L> {
     ghost use Rattle.wire.specs.Bags.{empty};
     ghost use Rattle.wire.specs.Questions.{refusal, first_no};
     ghost use Rattle.memory.specs.Calls.{access_questions};
-    ghost use Rattle.memory.specs.Placements.{Placement, placed, after_placing};
+    ghost use Rattle.memory.specs.Placements.{placed, after_placing};
+    ghost use Rattle.memory.specs.declared.placement.Placement.{Placement};
     ghost use Rattle.kit.specs.Clusters.{over};
     ghost use Rattle.kit.specs.KitQuestions.{place_questions};
     ghost use Rattle.kit.specs.Runs.{LeadsTo};

@@ -20,7 +20,8 @@ use Rattle.memory.specs.Histories.{Access, load, store, IsDelivery}
 use Rattle.memory.specs.Kits.{board_at, state_at, with_board}
 use Rattle.memory.specs.Ledgers.{Ledger, is_open, open_accesses, passed_on}
 use Rattle.memory.specs.OneMemory.{NothingOpen, AnswerIsRight}
-use Rattle.memory.specs.Placements.{Placement, array}
+use Rattle.memory.specs.Placements.{array}
+use Rattle.memory.specs.declared.placement.Placement.{Placement}
 use Rattle.memory.specs.Promises.{IsOneMemory, IsWilling, NeverRefuses}
 use Rattle.memory.specs.Reached.{MayBegin, begun}
 use Rattle.memory.specs.Willing.{QuietWhereNothingWaits, PostsNothing, questions, questions_of}

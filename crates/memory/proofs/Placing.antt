@@ -8,7 +8,8 @@ use Rattle.board.specs.declared.entry.PageEntry.{PageEntry}
 use Rattle.board.specs.Addresses.{page_of, place_of}
 use Rattle.lone.specs.Tables.{start_table, entry_at, no_entry, word_at, with_word_at}
 use Rattle.memory.specs.Kits.{table_of}
-use Rattle.memory.specs.Placements.{Placement, placed, after_placing, InRange, PlacedWords}
+use Rattle.memory.specs.Placements.{placed, after_placing, InRange, PlacedWords}
+use Rattle.memory.specs.declared.placement.Placement.{Placement}
 
 -- sixteen pages of sixteen words
 pub record Shaped (es : List PageEntry) : Type 0 where

@@ -3,11 +3,7 @@ use Rattle.std.specs.Prelude.{◌≡◌, ℕ, ◌*◌, ◌<◌, ◌≤◌, List,
 use Rattle.memory.specs.Functions.{changed}
 use Rattle.lone.specs.Tables.{word_at, with_word_at}
 use Rattle.memory.specs.Kits.{Kit, table_of, start_kit}
-
--- a word to be placed, with its address
-pub record Placement : Type 0 where
-  pub address : ℕ
-  pub word : ℕ
+use Rattle.memory.specs.declared.placement.Placement.{Placement}
 
 -- an array of words, by their addresses
 abbrev pub Words : Type 0

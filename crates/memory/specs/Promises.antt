@@ -6,7 +6,8 @@ use Rattle.wire.specs.declared.message.Message.{Message}
 use Rattle.memory.specs.Calls.{Running, room, without, arrival_questions}
 use Rattle.memory.specs.Histories.{History}
 use Rattle.memory.specs.OneMemory.{OneMemory, OneMemoryWithin}
-use Rattle.memory.specs.Placements.{Placement, array}
+use Rattle.memory.specs.Placements.{array}
+use Rattle.memory.specs.declared.placement.Placement.{Placement}
 use Rattle.memory.specs.Reached.{MayBegin, begun, Reached}
 use Rattle.memory.specs.Willing.{Willing}
 

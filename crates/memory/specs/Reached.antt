@@ -3,7 +3,8 @@ use Rattle.std.specs.Prelude.{ℕ, ◌+◌, ◌*◌, ◌≤◌, List, [], ◌∷
 use Rattle.wire.specs.Bags.{empty}
 use Rattle.memory.specs.Calls.{Running, Does}
 use Rattle.memory.specs.Histories.{Event, History}
-use Rattle.memory.specs.Placements.{Placement, InRange, after_placing}
+use Rattle.memory.specs.Placements.{InRange, after_placing}
+use Rattle.memory.specs.declared.placement.Placement.{Placement}
 
 -- how a kit may begin: 1 to 16 boards, 1 to 16 pages, a link of limit at least n × n + 16, and placements in range
 pub record MayBegin (n p limit : ℕ) (placements : List Placement) : Type 0 where

@@ -16,7 +16,8 @@ use Rattle.lone.specs.Tables.{start_table, entry_at, no_entry, with_word_at}
 use Rattle.lone.proofs.LoneForms.{lone_told, step_kept, start_form}
 use Rattle.memory.specs.Kits.{Kit, state_at, table_of, board_at}
 use Rattle.memory.specs.Ledgers.{fresh}
-use Rattle.memory.specs.Placements.{Placement, InRange, array, after_placing}
+use Rattle.memory.specs.Placements.{InRange, array, after_placing}
+use Rattle.memory.specs.declared.placement.Placement.{Placement}
 use Rattle.memory.specs.Reached.{begun}
 use Rattle.memory.proofs.Placing.{placed_table, shaped_placing, some_tables, placed_words}
 use Rattle.memory.proofs.kept.Start.{start_kept, start_left}

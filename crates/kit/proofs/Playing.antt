@@ -1,0 +1,111 @@
+-- Words placed one after another, calls carried out one upon the other, and what a kit that does both promises.
+use Rattle.std.proofs.Common.{◌≡◌, ℕ, ◌+◌, ◌*◌, ◌<◌, ◌==◌, nat_le, List, [], ◌∷◌, ◌++◌, None, Ok, Err, Option, Result, length, take, drop, reverse, get_or, refl, ap, ◌∙◌, sym, subst, arith}
+use Rattle.std.proofs.lemmas.Bool.Decides.{nat_tests}
+use Rattle.std.proofs.lemmas.Grind.{flat_map-append, reverse_onto}
+use Rattle.std.proofs.lemmas.List.{append_assoc, append-nil, map-append, reverse-append, take_more, take-append-drop}
+use Rattle.wire.specs.Bags.{Bag, size}
+use Rattle.wire.specs.Faults.{number}
+use Rattle.wire.specs.Questions.{first_no, refusal, inside}
+use Rattle.wire.specs.declared.fault.Fault.{Fault}
+use Rattle.wire.specs.declared.message.Message.{Message}
+use Rattle.wire.proofs.Questions.{yes, refused_before, passed_before}
+use Rattle.lone.specs.Sizes.{has_address}
+use Rattle.memory.specs.Histories.{History}
+use Rattle.memory.specs.Kits.{Kit, start_kit}
+use Rattle.memory.specs.Placements.{InRange, placed, after_placing}
+use Rattle.memory.specs.Reached.{MayBegin}
+use Rattle.memory.specs.declared.answer.Answer.{Answer}
+use Rattle.memory.specs.declared.call.Call.{Call}
+use Rattle.memory.specs.declared.placement.Placement.{Placement}
+use Rattle.kit.specs.KitQuestions.{link_questions, place_questions}
+use Rattle.kit.specs.Plays.{placing_questions, setup_questions, Started, CarriedOut, nothing_yet, one_more, PlayedFrom, Plays}
+use Rattle.kit.specs.Runs.{LeadsTo, GoesOn}
+use Rattle.kit.specs.declared.running.Running.{Running}
+use Rattle.kit.proofs.Empty.{nothing_in}
+use Rattle.kit.proofs.Runs.{begins, kept_of}
+
+-- the word at place i comes after those before it
+module _ (words : List Placement) (i : ℕ) (none : Placement) (lt : i < length words) where
+  one_more_asked : (p : ℕ) → placing_questions p (take (i + 1) words) ≡ placing_questions p (take i words) ++ place_questions p (get_or words i none).address
+  one_more_asked p = ap (placing_questions p) (take_more words i none lt) ∙ flat_map-append (λ w. place_questions p w.address) (take i words) (get_or words i none ∷ [])
+
+  asked_so_far : (p : ℕ) → first_no (placing_questions p (take i words)) ≡ None → first_no (placing_questions p (take (i + 1) words)) ≡ first_no (place_questions p (get_or words i none).address)
+  asked_so_far p passed = ap first_no (one_more_asked p) ∙ passed_before (placing_questions p (take i words)) (place_questions p (get_or words i none).address) passed
+
+  one_more_reversed : reverse (take (i + 1) words) ≡ get_or words i none ∷ reverse (take i words)
+  one_more_reversed = ap reverse (take_more words i none lt) ∙ reverse-append (take i words) (get_or words i none ∷ [])
+
+  pub one_more_passed : (p : ℕ) (r : Result (Unit {0}) Fault) (x : Unit {0}) → first_no (placing_questions p (take i words)) ≡ None → refusal r ≡ first_no (place_questions p (get_or words i none).address) → r ≡ Ok x →
+      first_no (placing_questions p (take (i + 1) words)) ≡ None
+  one_more_passed p r x passed asked was = asked_so_far p passed ∙ sym asked ∙ ap refusal was
+
+  -- a word that is refused refuses them all
+  pub one_refused : {T : Type 0} (p : ℕ) (r : Result (Unit {0}) Fault) (t : Result T Fault) (fault : Fault) → first_no (placing_questions p (take i words)) ≡ None → refusal r ≡ first_no (place_questions p (get_or words i none).address) → r ≡ Err fault → t ≡ Err fault →
+      refusal t ≡ first_no (placing_questions p words)
+  one_refused p r t fault passed asked was rises =
+      let here = refused_before (placing_questions p (take (i + 1) words)) (placing_questions p (drop (i + 1) words)) (number fault) (asked_so_far p passed ∙ sym asked ∙ ap refusal was) in
+      ap refusal rises ∙ sym here ∙ ap first_no (sym (flat_map-append (λ w. place_questions p w.address) (take (i + 1) words) (drop (i + 1) words)) ∙ ap (placing_questions p) (take-append-drop (i + 1) words))
+
+  pub one_more_placed : (first k after : Kit) → ((n p : ℕ) → first ≡ start_kit n p → k ≡ after_placing n p (reverse (take i words))) → after ≡ placed k (get_or words i none).address (get_or words i none).word →
+      (n p : ℕ) → first ≡ start_kit n p → after ≡ after_placing n p (reverse (take (i + 1) words))
+  one_more_placed first k after before now n p starts =
+      now ∙ ap (λ x. placed x (get_or words i none).address (get_or words i none).word) (before n p starts) ∙ ap (after_placing n p) (sym one_more_reversed)
+
+-- words that are not refused are in range, in whatever order
+all_in_range : (p : ℕ) (words others : List Placement) → first_no (placing_questions p words) ≡ None → InRange p others → InRange p (reverse words ++ others)
+all_in_range p [] others passed inside = inside
+all_in_range p (w ∷ ws) others passed inside =
+    let first = yes 2 (has_address p w.address) (placing_questions p ws) passed in
+    let same : reverse (w ∷ ws) ++ others ≡ reverse ws ++ w ∷ others = ap (λ x. x ++ others) (reverse_onto ws w []) ∙ append_assoc (reverse ws) (w ∷ []) others in
+    subst (InRange p) (sym same) (all_in_range p ws (w ∷ others) first.1 (grind (arith, nat_tests, first.0), inside))
+
+-- a kit that passes the questions of its setup may begin, and its link is empty
+may_begin : (n p limit count : ℕ) (words : List Placement) → first_no (setup_questions n p limit count words) ≡ None → MayBegin n p limit (reverse words) × (count ≡ 0)
+may_begin n p limit count words passed =
+    let words_questions = placing_questions p words in
+    let a = yes 4 (inside 1 16 n) ((5, inside 1 16 p) ∷ link_questions n limit count ++ words_questions) passed in
+    let b = yes 5 (inside 1 16 p) (link_questions n limit count ++ words_questions) a.1 in
+    let c = yes 6 (nat_le (n * n + 16) limit) ((7, (count == 0)) ∷ words_questions) b.1 in
+    let d = yes 7 (count == 0) words_questions c.1 in (
+      record {
+        some_boards = grind (arith, nat_tests, a.0);
+        boards = grind (arith, nat_tests, a.0);
+        some_pages = grind (arith, nat_tests, b.0);
+        pages = grind (arith, nat_tests, b.0);
+        room = grind (arith, nat_tests, c.0);
+        in_range = subst (InRange p) (append-nil (reverse words)) (all_in_range p words [] d.1 tt);
+      },
+      grind (arith, nat_tests, d.0),
+    )
+
+module _ {L : Type 0} (limit : L → ℕ) (waiting : L → Bag Message) (joins : L → Message → Result (Unit {0}) Fault → L → Type 0) (chooses : L → ℕ → Option Message → L → Type 0) where
+  pub none_played : (s : Running L) (answers : List (Result Answer Fault)) → answers ≡ [] → PlayedFrom limit waiting joins chooses s [] answers s
+  none_played s answers none = record { history = []; calls_are = refl; answers_are = sym none; carried_out = nothing_yet }
+
+  pub one_more_played : (s t u : Running L) (calls : List Call) (i : ℕ) (none : Call) (answers after : List (Result Answer Fault)) (answer : Result Answer Fault) → i < length calls →
+      PlayedFrom limit waiting joins chooses s (take i calls) answers t → GoesOn limit waiting joins chooses (get_or calls i none) answer t u → after ≡ answers ++ answer ∷ [] →
+      PlayedFrom limit waiting joins chooses s (take (i + 1) calls) after u
+  one_more_played s t u calls i none answers after answer lt played on pushed = record {
+    history = played.history ++ record { call = get_or calls i none; answer = answer; posted = on.posted } ∷ [];
+    calls_are = map-append (λ e. e.call) played.history _ ∙ ap (λ x. x ++ get_or calls i none ∷ []) played.calls_are ∙ sym (take_more calls i none lt);
+    answers_are = map-append (λ e. e.answer) played.history _ ∙ ap (λ x. x ++ answer ∷ []) played.answers_are ∙ sym pushed;
+    carried_out = one_more (get_or calls i none) answer played.carried_out on;
+  }
+
+  leads_on : (n p first_limit : ℕ) (placements : List Placement) → MayBegin n p first_limit placements → {s r : Running L} {h : History} → LeadsTo limit waiting n p first_limit placements [] s → CarriedOut limit waiting joins chooses s h r →
+      LeadsTo limit waiting n p first_limit placements h r
+  leads_on n p first_limit placements may leads nothing_yet = leads
+  leads_on n p first_limit placements may leads (one_more {h} call answer carried on) = (on.kept n p first_limit placements may h (leads_on n p first_limit placements may leads carried)).leads
+
+  pub plays : (n p : ℕ) (link : L) (words : List Placement) (calls : List Call) (answers : List (Result Answer Fault)) (s r : Running L) → first_no (setup_questions n p (limit link) (size (waiting link)) words) ≡ None →
+      Started n p link words s → PlayedFrom limit waiting joins chooses s calls answers r → Plays limit waiting joins chooses n p link words calls answers r
+  plays n p link words calls answers s r passed started played =
+      let may = may_begin n p (limit link) (size (waiting link)) words passed in
+      let leads = begins limit waiting n p (limit link) (reverse words) s started.placed (ap limit started.same_link) (ap waiting started.same_link ∙ nothing_in (waiting link) may.1) started.opened in
+      record {
+        may_begin = may.0;
+        start = s;
+        started = started;
+        played = played;
+        kept = kept_of limit waiting n p (limit link) (reverse words) may.0 played.history r (leads_on n p (limit link) (reverse words) may.0 leads played.carried_out);
+      }

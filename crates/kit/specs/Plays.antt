@@ -1,0 +1,61 @@
+-- What a kit that plays a list of calls promises, whatever it is given.
+use Rattle.std.specs.Prelude.{◌≡◌, ℕ, Bool, List, [], ◌∷◌, ◌++◌, map, reverse, Some, None, Ok, Err, Option, Result}
+use Rattle.std.specs.List.{flat_map}
+use Rattle.wire.specs.Bags.{Bag}
+use Rattle.wire.specs.Faults.{number}
+use Rattle.wire.specs.declared.fault.Fault.{Fault}
+use Rattle.wire.specs.declared.message.Message.{Message}
+use Rattle.memory.specs.Histories.{History}
+use Rattle.memory.specs.Placements.{after_placing}
+use Rattle.memory.specs.Reached.{MayBegin}
+use Rattle.memory.specs.declared.answer.Answer.{Answer}
+use Rattle.memory.specs.declared.call.Call.{Call}
+use Rattle.memory.specs.declared.placement.Placement.{Placement}
+use Rattle.kit.specs.Clusters.{kit_of}
+use Rattle.kit.specs.KitQuestions.{making_questions, place_questions}
+use Rattle.kit.specs.Runs.{Kept, GoesOn}
+use Rattle.kit.specs.declared.play.NotPlayed.{NotPlayed}
+use Rattle.kit.specs.declared.play.NotPlayed.TheVariants.{Refused, NoMemory}
+use Rattle.kit.specs.declared.running.Running.{Running}
+
+-- what is asked of words, in their order
+abbrev pub placing_questions : ℕ → List Placement → List (ℕ × Bool)
+placing_questions p words = flat_map (λ w. place_questions p w.address) words
+
+-- what is asked before anything is played: the kit's own questions, and then those of each word
+abbrev pub setup_questions : ℕ → ℕ → ℕ → ℕ → List Placement → List (ℕ × Bool)
+setup_questions n p limit count words = making_questions n p limit count ++ placing_questions p words
+
+-- the number that the setup is refused with; a want of memory is no refusal
+abbrev pub setup_refusal : {T : Type 0} → Result T NotPlayed → Option ℕ
+setup_refusal (Ok x) = None
+setup_refusal (Err (Refused fault)) = Some (number fault)
+setup_refusal (Err (NoMemory error)) = None
+
+-- a kit of n boards and p pages over this link, started with these words
+pub record Started {L : Type 0} (n p : ℕ) (link : L) (words : List Placement) (r : Running L) : Type 0 where
+  pub placed : kit_of r.cluster ≡ after_placing n p (reverse words)
+  pub same_link : r.link ≡ link
+  pub opened : r.opened ≡ 0
+
+module _ {L : Type 0} (limit : L → ℕ) (waiting : L → Bag Message) (joins : L → Message → Result (Unit {0}) Fault → L → Type 0) (chooses : L → ℕ → Option Message → L → Type 0) where
+  -- the calls of a history were carried out one upon the other, from start on
+  pub data CarriedOut (start : Running L) : History → Running L → Type 0 where
+    nothing_yet : CarriedOut start [] start
+    one_more : {h : History} {s t : Running L} (call : Call) (answer : Result Answer Fault) → CarriedOut start h s → (on : GoesOn limit waiting joins chooses call answer s t) →
+        CarriedOut start (h ++ record { call = call; answer = answer; posted = on.posted } ∷ []) t
+
+  -- these calls were carried out with these answers, and led from start to r
+  pub record PlayedFrom (start : Running L) (calls : List Call) (answers : List (Result Answer Fault)) (r : Running L) : Type 0 where
+    pub history : History
+    pub calls_are : map (λ e. e.call) history ≡ calls
+    pub answers_are : map (λ e. e.answer) history ≡ answers
+    pub carried_out : CarriedOut start history r
+
+  -- The whole promise: a kit began with these words and played these calls with these answers, and what it played is kept.
+  pub record Plays (n p : ℕ) (link : L) (words : List Placement) (calls : List Call) (answers : List (Result Answer Fault)) (r : Running L) : Type 0 where
+    pub may_begin : MayBegin n p (limit link) (reverse words)
+    pub start : Running L
+    pub started : Started n p link words start
+    pub played : PlayedFrom start calls answers r
+    pub kept : Kept limit waiting n p (limit link) (reverse words) played.history r
