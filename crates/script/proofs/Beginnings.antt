@@ -5,7 +5,8 @@ use Rattle.wire.specs.Links.{largest_limit}
 use Rattle.wire.specs.Questions.{first_no, inside}
 use Rattle.wire.proofs.Questions.{yes}
 use Rattle.memory.specs.Kits.{Kit}
-use Rattle.memory.specs.Placements.{Placement, after_placing}
+use Rattle.memory.specs.Placements.{after_placing}
+use Rattle.memory.specs.declared.placement.Placement.{Placement}
 use Rattle.memory.specs.Reached.{MayBegin}
 use Rattle.kit.specs.KitQuestions.{making_questions, place_questions}
 

@@ -13,7 +13,8 @@ use Rattle.memory.specs.Calls.{Running as State, Answers, DoesCall, Does, room}
 use Rattle.memory.specs.Calls as calls
 use Rattle.memory.specs.Histories.{Event, History}
 use Rattle.memory.specs.Kits.{Kit, start_kit, board_at, with_board}
-use Rattle.memory.specs.Placements.{Placement, placed, after_placing}
+use Rattle.memory.specs.Placements.{placed, after_placing}
+use Rattle.memory.specs.declared.placement.Placement.{Placement}
 use Rattle.memory.specs.Promises.{NothingIsRefused}
 use Rattle.memory.specs.Reached.{MayBegin, begun, Reached, started, onward}
 use Rattle.memory.specs.declared.answer.Answer.{Answer as KitAnswer}

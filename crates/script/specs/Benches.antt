@@ -6,7 +6,8 @@ use Rattle.wire.specs.declared.message.Message.{Message}
 use Rattle.memory.specs.Calls as calls
 use Rattle.memory.specs.Histories.{History}
 use Rattle.memory.specs.Kits.{Kit}
-use Rattle.memory.specs.Placements.{Placement, after_placing}
+use Rattle.memory.specs.Placements.{after_placing}
+use Rattle.memory.specs.declared.placement.Placement.{Placement}
 use Rattle.memory.specs.Reached.{MayBegin, begun, Reached}
 use Rattle.kit.specs.Clusters.{kit_of}
 use Rattle.script.specs.NamedLinks.{kind_of, limit_of, row_of}

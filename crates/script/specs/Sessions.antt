@@ -3,7 +3,8 @@ use Rattle.std.specs.Prelude.{ℕ, cond, List, [], ◌∷◌, ◌++◌, Ok}
 use Rattle.wire.specs.declared.message.Message.{Message}
 use Rattle.memory.specs.Histories.{History}
 use Rattle.memory.specs.OneMemory.{OneMemory}
-use Rattle.memory.specs.Placements.{Placement, array}
+use Rattle.memory.specs.Placements.{array}
+use Rattle.memory.specs.declared.placement.Placement.{Placement}
 use Rattle.memory.specs.Willing.{Willing}
 use Rattle.script.specs.Plays.{Bench, no_kit, Done, Outcome, accepted, refused, outcome, after, ends}
 use Rattle.script.specs.Records.{records}
