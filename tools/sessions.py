@@ -1,7 +1,7 @@
-"""Makes the sittings that the gate plays, byte for byte the same each time: run at the top, python3 tools/sessions.py
+"""Makes the sessions that the gate plays, byte for byte the same each time: run at the top, python3 tools/sessions.py
 
-For each number of boards and each link it makes a script, plays it on the model and stores both in crates/sittings/data. It
-copies the sittings of examples/ there too, and writes what the program `sittings` is given and what it must print.
+For each number of boards and each link it makes a script, plays it on the model and stores both in crates/sessions/data. It
+copies the sessions of examples/ there too, and writes what the program `sessions` is given and what it must print.
 With --check it writes nothing, and fails if a file is not what it would write.
 """
 
@@ -12,9 +12,9 @@ import model
 
 TOP = pathlib.Path(__file__).resolve().parent.parent
 EXAMPLES = TOP / "examples"
-CRATE = TOP / "crates" / "sittings"
+CRATE = TOP / "crates" / "sessions"
 LINKS = ("queue", "pool")
-SHORTEST = 330  # records of a made sitting
+SHORTEST = 330  # records of a made session
 
 # how often a load, a store and a delivery come, and on how many pages and places of each
 PHASES = (
@@ -28,7 +28,7 @@ PHASES = (
 )
 PHASE_RECORDS = 30
 
-# sixteen bytes that have not the form of a record; none begins with K, which would end the sitting
+# sixteen bytes that have not the form of a record; none begins with K, which would end the session
 MALFORMED = (
     b"k0200100000000 \n",
     b"l0000000000000 \n",
@@ -70,7 +70,7 @@ class Dice:
         return self.below(2 ** 16) * 2 ** 16 + self.below(2 ** 16)
 
 
-class Sitting:
+class Session:
     """A script in the making, played on the model as it grows."""
 
     def __init__(self, boards, pool):
@@ -173,21 +173,21 @@ class Sitting:
             self.deliver()
 
 
-def sittings():
+def sessions():
     """Each name with its script and its listing: those of examples/, then those that are made."""
     for script in sorted(EXAMPLES.glob("*.script")):
         yield script.stem, script.read_bytes(), script.with_suffix(".listing").read_bytes()
     for boards in range(1, 17):
         for pool, link in enumerate(LINKS):
-            sitting = Sitting(boards, pool)
-            sitting.make()
-            yield f"n{boards:02d}-{link}", b"".join(sitting.records), b"".join(sitting.answers)
+            session = Session(boards, pool)
+            session.make()
+            yield f"n{boards:02d}-{link}", b"".join(session.records), b"".join(session.answers)
 
 
 def files():
     """What is written, by path."""
     names, printed = "", ""
-    for name, script, listing in sittings():
+    for name, script, listing in sessions():
         assert listing == model.listing(script), name
         yield CRATE / "data" / f"{name}.script", script
         yield CRATE / "data" / f"{name}.listing", listing

@@ -1,8 +1,8 @@
 use Rattle.std.proofs.Common.{◌≡◌, true}
 use Rattle.std.proofs.lemmas.Slice.Eq.{slice_eq-Decides}
 use Rattle.std.proofs.lemmas.Bool.Decides.{Decides-eqb}
-use Rattle.sittings.proofs.Listings.{same_past_end}
-use Rattle.sittings.proofs.listing.first_difference.Goals as goal
+use Rattle.sessions.proofs.Listings.{same_past_end}
+use Rattle.sessions.proofs.listing.first_difference.Goals as goal
 
 pub returns-clause-differ_there : goal.returns-clause-differ_there
 returns-clause-differ_there c same =
