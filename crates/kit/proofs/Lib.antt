@@ -4,3 +4,5 @@ mod Numbers
 mod Runs
 mod Starting
 mod Empty
+mod OneItem
+mod Forced

@@ -4,5 +4,5 @@ use wire::link::Link;
 
 /// The worked cases of the limits, over any link.
 pub fn worked_cases<L: Link>(_link: &L)
-    ensures { WorkedCases L.limit L.waiting }
+    ensures { WorkedCases L.Link.limit L.waiting L.Choice.joins L.Choice.chooses }
 {}
