@@ -1,9 +1,9 @@
 -- A board's node beside the board of the kit, before a step of it and after.
-use Rattle.std.proofs.Common.{◌≡◌, ℕ, ◌<◌, ◌≤◌, nat_lt, Bool, true, false, List, None, [], length, map, get_or, set, refl, ap, ◌∙◌, sym, subst, eqb, arith}
+use Rattle.std.proofs.Common.{◌≡◌, ℕ, ◌<◌, ◌≤◌, Bool, true, false, List, None, [], length, get_or, set, refl, ap, ◌∙◌, sym, subst, eqb, arith}
 use Rattle.std.proofs.lemmas.Bool.{eqb-true, eqb-false}
 use Rattle.std.proofs.lemmas.List.{map-set, get_or-map, length-map, get_or-set_same, get_or-set_other, length-set}
 use Rattle.wire.specs.declared.message.Message.{Message}
-use Rattle.board.specs.Boards.{BoardState, state_of, start_state}
+use Rattle.board.specs.Boards.{BoardState, start_state}
 use Rattle.board.specs.declared.entry.PageEntry.{PageEntry}
 use Rattle.board.specs.Addresses.{page_of}
 use Rattle.board.specs.Openings.{Opens, load, store}
@@ -20,7 +20,7 @@ use Rattle.lone.proofs.LoneForms.{loaded_kept, stored_kept}
 use Rattle.lone.specs.Calls.{Outcome}
 use Rattle.lone.specs.Forms.{lone_form}
 use Rattle.lone.specs.Lones.{Lone, after_step}
-use Rattle.memory.specs.Kits.{Kit, state_at, table_of, board_at, with_board}
+use Rattle.memory.specs.Kits.{Kit, board_at, with_board}
 use Rattle.kit.proofs.Numbers.{number_loading, number_storing, number_arrived}
 use Rattle.kit.specs.Clusters.{node_state, node_entries, kit_of}
 use Rattle.kit.specs.Forms.{BoardForm, KitForm}
@@ -101,7 +101,7 @@ module _ (k : Cluster) (i : ℕ) (d : Node) (rows : length k.nodes ≡ 16) (ther
           few = few;
           answered = answered;
           form = subst KitForm (sym (is_after n))
-            (form_kept (kit_of k) i (lone_node k n) (omega (arith, inside, length-map k.nodes node_state)) (omega (arith, inside, length-map k.nodes node_entries)) form refl refl
+              (form_kept (kit_of k) i (lone_node k n) (omega (arith, inside, length-map k.nodes node_state)) (omega (arith, inside, length-map k.nodes node_entries)) form refl refl
               (ap (λ (x : BoardState). x.number) state ∙ number ∙ number_here) (ap length entries ∙ length-set (lone_here k i d).table page e ∙ rows_here) (ap lone_form (sym is_node) ∙ good));
         }
 
@@ -115,8 +115,8 @@ module _ (k : Cluster) (i : ℕ) (d : Node) (rows : length k.nodes ≡ 16) (ther
           let o = load (lone_here k i d).state (entry_here k i d page) address in
           subst (λ x. Steps i (load_at x address) (kit_of k) (kit_of (with_node k i n)) posts answer) (sym is_here)
           (stepped (load_at (lone_here k i d) address) n page o.state o.entry posts answer (rw (sym is_page) refl) opens.0 (entries ∙ ap (set (lone_here k i d).table page) opens.1)
-            (opens.2 ∙ rw (sym is_page) refl) few (opens.3 ∙ rw (sym is_page) refl) (number_loading (entry_here k i d page).access (lone_here k i d).state (entry_here k i d page) address)
-            (loaded_kept (lone_here k i d) rows_here (omega (arith, k.size.pages_bounded)) good_here address accepted_here))
+          (opens.2 ∙ rw (sym is_page) refl) few (opens.3 ∙ rw (sym is_page) refl) (number_loading (entry_here k i d page).access (lone_here k i d).state (entry_here k i d page) address)
+          (loaded_kept (lone_here k i d) rows_here (omega (arith, k.size.pages_bounded)) good_here address accepted_here))
 
       pub stored : (word : ℕ) → Opens (store (lone_here k i d).state (entry_here k i d page) address word) (node_state n) e posts answer →
           Steps i (store_at (board_at (kit_of k) i) address word) (kit_of k) (kit_of (with_node k i n)) posts answer
@@ -124,8 +124,8 @@ module _ (k : Cluster) (i : ℕ) (d : Node) (rows : length k.nodes ≡ 16) (ther
           let o = store (lone_here k i d).state (entry_here k i d page) address word in
           subst (λ x. Steps i (store_at x address word) (kit_of k) (kit_of (with_node k i n)) posts answer) (sym is_here)
           (stepped (store_at (lone_here k i d) address word) n page o.state o.entry posts answer (rw (sym is_page) refl) opens.0 (entries ∙ ap (set (lone_here k i d).table page) opens.1)
-            (opens.2 ∙ rw (sym is_page) refl) few (opens.3 ∙ rw (sym is_page) refl) (number_storing (entry_here k i d page).access (lone_here k i d).state (entry_here k i d page) address word)
-            (stored_kept (lone_here k i d) rows_here (omega (arith, k.size.pages_bounded)) good_here address accepted_here word))
+          (opens.2 ∙ rw (sym is_page) refl) few (opens.3 ∙ rw (sym is_page) refl) (number_storing (entry_here k i d page).access (lone_here k i d).state (entry_here k i d page) address word)
+          (stored_kept (lone_here k i d) rows_here (omega (arith, k.size.pages_bounded)) good_here address accepted_here word))
 
     -- a message arrives
     module _ (m : Message) (ok : first_no (lone.arrival_questions (board_at (kit_of k) i) m) ≡ None) where
@@ -142,5 +142,5 @@ module _ (k : Cluster) (i : ℕ) (d : Node) (rows : length k.nodes ≡ 16) (ther
           let o = arrive (lone_here k i d).state (entry_here k i d m.page) m in
           subst (λ x. Steps i (arrive_at x m) (kit_of k) (kit_of (with_node k i n)) posts answer) (sym is_here)
           (stepped (arrive_at (lone_here k i d) m) n m.page o.state o.entry posts answer refl arrives.0 (entries ∙ ap (set (lone_here k i d).table m.page) arrives.1)
-            arrives.2 few arrives.3 (number_arrived (lone_here k i d).state (entry_here k i d m.page) m)
-            (arrived_kept (lone_here k i d) m rows_here (omega (arith, k.size.pages_bounded)) good_here arrival_here))
+          arrives.2 few arrives.3 (number_arrived (lone_here k i d).state (entry_here k i d m.page) m)
+          (arrived_kept (lone_here k i d) m rows_here (omega (arith, k.size.pages_bounded)) good_here arrival_here))

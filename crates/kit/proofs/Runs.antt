@@ -1,6 +1,6 @@
 -- What a call does goes on every history that led to the kit.
-use Rattle.std.proofs.Common.{◌≡◌, ℕ, ◌+◌, ◌<◌, min, List, [], ◌∷◌, ◌++◌, Some, None, Ok, Err, Option, Result, refl, ap, ◌∙◌, sym, subst, inl, inr, arith}
-use Rattle.wire.specs.Bags.{Bag, ◌&◌, empty}
+use Rattle.std.proofs.Common.{◌≡◌, ℕ, ◌+◌, List, [], ◌∷◌, ◌++◌, Some, None, Ok, Err, Option, Result, refl, ap, ◌∙◌, sym, subst, inl, inr, arith}
+use Rattle.wire.specs.Bags.{Bag, empty}
 use Rattle.wire.specs.Links.{Sent, InTurn, Taken}
 use Rattle.wire.specs.Questions.{first_no, refusal}
 use Rattle.wire.specs.declared.fault.Fault.{Fault}
@@ -11,16 +11,15 @@ use Rattle.board.specs.declared.answer.Arrival.{Arrival}
 use Rattle.lone.specs.Calls.{Outcome, load_at, store_at, arrive_at}
 use Rattle.memory.specs.Calls.{Answers, Delivers, DoesCall, access_questions, arrival_questions, without}
 use Rattle.memory.specs.Histories.{History, Event}
-use Rattle.memory.specs.Kits.{board_at, with_board}
+use Rattle.memory.specs.Kits.{board_at}
 use Rattle.memory.specs.Placements.{Placement, after_placing}
 use Rattle.memory.specs.Reached.{MayBegin, begun, Reached, started, onward}
 use Rattle.memory.specs.declared.answer.Answer.{Answer}
 use Rattle.memory.specs.declared.answer.Answer.TheVariants.{Accessed, Arrived, Quiet}
-use Rattle.memory.specs.declared.call.Call.{Call}
 use Rattle.memory.specs.declared.call.Call.TheVariants.{Load, Store, Deliver}
 use Rattle.memory.proofs.OneMemory.{is_one_memory, is_willing, never_refuses}
 use Rattle.kit.specs.Clusters.{kit_of, over}
-use Rattle.kit.specs.Runs.{opened_by, openings, counted, opened_after, running_of, LeadsTo, Kept, LinkDoes, GoesOn, accessed, delivered}
+use Rattle.kit.specs.Runs.{opened_by, openings, counted, opened_after, running_of, LeadsTo, Kept, GoesOn, accessed, delivered}
 use Rattle.kit.specs.Steps.{Steps}
 use Rattle.kit.specs.declared.running.Running.{Running}
 

@@ -1,17 +1,17 @@
 -- The boards of a kit have their form when it starts, and placing words keeps it.
-use Rattle.std.proofs.Common.{◌≡◌, ℕ, ◌<◌, ◌≤◌, Bool, true, false, ◌&&◌, not, Ok, Err, Result, List, [], ◌∷◌, length, map, get_or, set, refl, ap, ◌∙◌, sym, subst, arith}
+use Rattle.std.proofs.Common.{◌≡◌, ℕ, ◌<◌, ◌≤◌, ◌&&◌, Ok, Err, Result, List, [], ◌∷◌, length, map, refl, ap, ◌∙◌, sym, subst, arith}
 use Rattle.std.proofs.Math.ListN.{get_or-map}
 use Rattle.std.proofs.Math.Seq.{map-set_same}
 use Rattle.std.proofs.lemmas.List.{set-get_or, length-map, length-set, length-replicate}
-use Rattle.std.proofs.lemmas.List.FromFn.{get_or-map-range_with_len, length-map-range_with_len}
-use Rattle.std.specs.List.{list_all, range_with_len}
+use Rattle.std.proofs.lemmas.List.FromFn.{get_or-map-range_with_len}
+use Rattle.std.specs.List.{list_all}
 use Rattle.board.specs.Addresses.{page_of, place_of}
 use Rattle.board.specs.Boards.{start_state}
 use Rattle.board.specs.Entries.{start_entry, with_word}
 use Rattle.board.specs.declared.entry.PageEntry.{PageEntry}
 use Rattle.board.specs.declared.stage.Stage.{Stage}
 use Rattle.board.specs.declared.stage.Stage.TheVariants.{Idle, LoadAsked, StoreAsked, Clearing}
-use Rattle.lone.specs.Forms.{entry_form, stage_form, waiting_form, lone_form}
+use Rattle.lone.specs.Forms.{entry_form, stage_form, lone_form}
 use Rattle.lone.specs.Lones.{Lone, start_lone}
 use Rattle.lone.specs.Tables.{entry_at, no_entry, start_table, with_word_at}
 use Rattle.lone.proofs.LoneForms.{start_form}
@@ -21,7 +21,7 @@ use Rattle.kit.proofs.Nodes.{form_kept}
 use Rattle.wire.specs.declared.fault.Fault.{Fault}
 use Rattle.kit.specs.Clusters.{node_state, node_entries, kit_of}
 use Rattle.kit.specs.declared.cluster.Cluster.{Cluster}
-use Rattle.kit.specs.Forms.{BoardForm, KitForm}
+use Rattle.kit.specs.Forms.{KitForm}
 use Rattle.std.specs.Prelude.{MatchResult}
 
 -- A board has its form whatever words are on its pages.

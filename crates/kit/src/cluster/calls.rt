@@ -21,12 +21,7 @@ use wire::message::Message;
 
 impl Cluster {
     /// What a load or a store is asked over a link: the room comes last.
-    pub(crate) fn ask_access<L: Link>(
-        &self,
-        board: u8,
-        address: u32,
-        link: &L,
-    ) -> Result<(), Fault>
+    pub(crate) fn ask_access<L: Link>(&self, board: u8, address: u32, link: &L) -> Result<(), Fault>
         ensures { refusal result ≡ first_no (access_questions (over self.now (L.limit link.now) (L.waiting link.now)) board address) }
     {
         if !self.size.has_board(board) {
@@ -83,8 +78,7 @@ impl Cluster {
         ensures { Steps board (load_at (board_at (kit_of self.old) board) address) (kit_of self.old) (kit_of self.new) (posts out.new) result }
     {
         let node = &mut self.nodes[board as usize];
-        node.state
-            .load(address, &node.table.entries[page_of(address) as usize], out)
+        node.state.load(address, &node.table.entries[page_of(address) as usize], out)
     }
 
     pub(crate) fn store(
@@ -118,10 +112,6 @@ impl Cluster {
         ensures { Steps message.now.to (arrive_at (board_at (kit_of self.old) message.now.to) message.now) (kit_of self.old) (kit_of self.new) (posts out.new) result }
     {
         let node = &mut self.nodes[message.to as usize];
-        node.state.arrive(
-            message,
-            &mut node.table.entries[message.page as usize],
-            out,
-        )
+        node.state.arrive(message, &mut node.table.entries[message.page as usize], out)
     }
 }

@@ -1,4 +1,4 @@
-use Rattle.std.proofs.Common.{rules, refl}
+use Rattle.std.proofs.Common.{rules}
 use Rattle.kit.proofs.Runs.{begins}
 use Rattle.kit.proofs.loading.Loading.start.Goals as goal
 
