@@ -5,3 +5,5 @@ mod Playing
 mod Runs
 mod Starting
 mod Empty
+mod OneItem
+mod Forced

@@ -1,5 +1,5 @@
 -- The worked cases hold.
-use Rattle.std.proofs.Common.{◌≡◌, ℕ, Some, None, Ok, Err, Option, Result, refl, ap, ◌∙◌, arith}
+use Rattle.std.proofs.Common.{◌≡◌, ℕ, [], ◌∷◌, Some, None, Ok, Err, Option, Result, refl, ap, ◌∙◌, arith}
 use Rattle.std.proofs.lemmas.Bool.Decides.{nat_tests}
 use Rattle.wire.specs.Bags.{Bag, size}
 use Rattle.wire.specs.Questions.{refusal}
@@ -9,7 +9,9 @@ use Rattle.wire.specs.declared.message.Message.{Message}
 use Rattle.records.proofs.Asking.{other_length}
 use Rattle.records.proofs.Damages.{other_kind, other_hops, used_byte}
 use Rattle.records.proofs.WorkedRecords.{record_accepted}
+use Rattle.memory.specs.declared.call.Call.TheVariants.{Load, Store, Deliver}
 use Rattle.kit.specs.WorkedCases.{Post, Take, WorkedCases}
+use Rattle.kit.proofs.Forced.{played}
 
 module _ {L : Type 0} (limit : L → ℕ) (waiting : L → Bag Message) where
   -- a post with a place free passes, and one more waits
@@ -42,7 +44,8 @@ module _ {L : Type 0} (limit : L → ℕ) (waiting : L → Bag Message) where
   nothing_waits : (a b : L) → size (waiting a) ≡ 0 → (take : Take limit waiting a b) → (take.answer ≡ None) × (b ≡ a)
   nothing_waits a b z take = says_nothing a b take.answer z take.taken
 
-  pub worked_cases : WorkedCases limit waiting
+module _ {L : Type 0} (limit : L → ℕ) (waiting : L → Bag Message) (joins : L → Message → Result (Unit {0}) Fault → L → Type 0) (chooses : L → ℕ → Option Message → L → Type 0) where
+  pub worked_cases : WorkedCases limit waiting joins chooses
   worked_cases = record {
     limit_too_low = refl;
     limit_enough = refl;
@@ -55,6 +58,9 @@ module _ {L : Type 0} (limit : L → ℕ) (waiting : L → Bag Message) where
     kind_too_high = λ bs ok. other_kind bs ok 7 refl;
     hops_too_many = λ bs ok. other_hops bs ok 15 (omega arith);
     unused_byte = λ bs b h ok. used_byte bs ok b h;
-    one_place = one_place;
-    nothing_waits = nothing_waits;
+    one_place = one_place limit waiting;
+    nothing_waits = nothing_waits limit waiting;
+    one_board = λ r t answers k on. played limit waiting joins chooses 1 (Store 0 0 5 ∷ Load 0 0 ∷ []) answers r t k (omega arith) refl on;
+    passed_on = λ a b c d e r t answers k on.
+        played limit waiting joins chooses 3 (Store 1 0 5 ∷ Deliver a ∷ Deliver b ∷ Load 2 0 ∷ Deliver c ∷ Deliver d ∷ Deliver e ∷ []) answers r t k (omega arith) refl on;
   }

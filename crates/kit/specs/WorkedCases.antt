@@ -1,13 +1,40 @@
 -- Cases worked out by hand, which the definitions must agree with.
-use Rattle.std.specs.Prelude.{◌≡◌, ℕ, ◌<◌, List, length, Some, None, Option, Result, slice_set}
+use Rattle.std.specs.Prelude.{◌≡◌, ℕ, ◌<◌, List, [], ◌∷◌, length, Some, None, Ok, Option, Result, slice_set}
 use Rattle.wire.specs.Bags.{Bag, size}
 use Rattle.wire.specs.Questions.{first_no, refusal}
 use Rattle.wire.specs.Links.{Posted, Taken}
 use Rattle.wire.specs.declared.fault.Fault.{Fault}
+use Rattle.wire.specs.declared.message.Kind.{Kind}
+use Rattle.wire.specs.declared.message.Kind.TheVariants.{ReadRequest, WriteRequest}
 use Rattle.wire.specs.declared.message.Message.{Message}
 use Rattle.records.specs.Layouts.{record_questions}
 use Rattle.records.specs.WorkedRecords.{worked_record}
+use Rattle.board.specs.declared.answer.AccessAnswer.TheVariants.{Answered, Opened}
+use Rattle.board.specs.declared.answer.Arrival.TheVariants.{Moved, Finished}
+use Rattle.board.specs.declared.request.AccessKind.{AccessKind}
+use Rattle.board.specs.declared.request.AccessKind.TheVariants as kind
+use Rattle.memory.specs.Reached.{MayBegin, begun}
+use Rattle.memory.specs.declared.answer.Answer.{Answer}
+use Rattle.memory.specs.declared.answer.Answer.TheVariants.{Accessed, Arrived}
+use Rattle.memory.specs.declared.call.Call.{Call}
+use Rattle.memory.specs.declared.call.Call.TheVariants.{Load, Store, Deliver}
 use Rattle.kit.specs.KitQuestions.{making_questions, place_questions}
+use Rattle.kit.specs.Runs.{running_of, GoesOn}
+use Rattle.kit.specs.declared.running.Running.{Running}
+
+-- The answers of calls on a kit; the accesses are of address 0.
+
+abbrev pub at_once : ℕ → Result Answer Fault
+at_once word = Ok (Accessed (Answered word))
+
+abbrev pub opens : Result Answer Fault
+opens = Ok (Accessed Opened)
+
+abbrev pub moves : ℕ → Kind → ℕ → Result Answer Fault
+moves board kind hops = Ok (Arrived (Moved board kind hops))
+
+abbrev pub finishes : ℕ → AccessKind → ℕ → ℕ → Result Answer Fault
+finishes board kind word hops = Ok (Arrived (Finished (record { board = board; kind = kind; address = 0; word = word; hops = hops })))
 
 module _ {L : Type 0} (limit : L → ℕ) (waiting : L → Bag Message) where
   -- a post, with its message, its answer and the links before and after
@@ -20,6 +47,21 @@ module _ {L : Type 0} (limit : L → ℕ) (waiting : L → Bag Message) where
   pub record Take (before after : L) : Type 0 where
     pub answer : Option Message
     pub taken : Taken limit waiting before answer after
+
+  -- a kit of n boards and one page, just started over an empty link, with no words placed
+  pub record JustStarted (n : ℕ) (r : Running L) : Type 0 where
+    pub first_limit : ℕ
+    pub may_begin : MayBegin n 1 first_limit []
+    pub begins : running_of limit waiting r ≡ begun n 1 first_limit []
+    pub none_opened : r.opened ≡ 0
+
+module _ {L : Type 0} (limit : L → ℕ) (waiting : L → Bag Message) (joins : L → Message → Result (Unit {0}) Fault → L → Type 0) (chooses : L → ℕ → Option Message → L → Type 0) where
+  -- calls on r, one after another, have these answers, and leave t
+  abbrev pub CallsGoOn : List Call → List (Result Answer Fault) → Running L → Running L → Type 0
+  CallsGoOn [] [] r t = t ≡ r
+  CallsGoOn (call ∷ calls) (answer ∷ answers) r t = (s : Running L) × GoesOn limit waiting joins chooses call answer r s × CallsGoOn calls answers s t
+  CallsGoOn [] (answer ∷ answers) r t = ⊥
+  CallsGoOn (call ∷ calls) [] r t = ⊥
 
   pub record WorkedCases : Type 0 where
     -- a kit of 16 boards wants a link of limit 272
@@ -39,7 +81,16 @@ module _ {L : Type 0} (limit : L → ℕ) (waiting : L → Bag Message) where
     pub hops_too_many : (bs : List ℕ) → first_no (record_questions bs) ≡ None → first_no (record_questions (slice_set bs 5 15)) ≡ Some 13
     pub unused_byte : (bs : List ℕ) (b : ℕ) → 0 < b → first_no (record_questions bs) ≡ None → first_no (record_questions (slice_set bs 8 b)) ≡ Some 14
     -- on a link of limit 1 the second post is refused, and after a take it passes
-    pub one_place : (a b c d e : L) → limit a ≡ 1 → size (waiting a) ≡ 0 → (first : Post a b) (second : Post b c) (take : Take c d) (third : Post d e) →
+    pub one_place : (a b c d e : L) → limit a ≡ 1 → size (waiting a) ≡ 0 → (first : Post limit waiting a b) (second : Post limit waiting b c) (take : Take limit waiting c d) (third : Post limit waiting d e) →
         (refusal first.answer ≡ None) × (refusal second.answer ≡ Some 9) × (refusal third.answer ≡ None)
     -- a take on an empty link says that nothing waits, and changes nothing
-    pub nothing_waits : (a b : L) → size (waiting a) ≡ 0 → (take : Take a b) → (take.answer ≡ None) × (b ≡ a)
+    pub nothing_waits : (a b : L) → size (waiting a) ≡ 0 → (take : Take limit waiting a b) → (take.answer ≡ None) × (b ≡ a)
+    -- one board stores 5 and loads it: both are answered with 5 within their calls, and no access was opened
+    pub one_board : (r t : Running L) (answers : List (Result Answer Fault)) → JustStarted limit waiting 1 r → CallsGoOn (Store 0 0 5 ∷ Load 0 0 ∷ []) answers r t →
+        (answers ≡ at_once 5 ∷ at_once 5 ∷ []) × (t.opened ≡ 0)
+    -- of three boards, board 1 stores 5 and comes to own the page, and board 2, which still hints at board 0, loads it:
+    -- board 0 passes the request on to board 1, so that the load finishes with hops 1, and two accesses were opened
+    pub passed_on : (a b c d e : ℕ) (r t : Running L) (answers : List (Result Answer Fault)) → JustStarted limit waiting 3 r →
+        CallsGoOn (Store 1 0 5 ∷ Deliver a ∷ Deliver b ∷ Load 2 0 ∷ Deliver c ∷ Deliver d ∷ Deliver e ∷ []) answers r t →
+        (answers ≡ opens ∷ moves 0 WriteRequest 0 ∷ finishes 1 kind.Store 5 0 ∷ opens ∷ moves 0 ReadRequest 0 ∷ moves 1 ReadRequest 1 ∷ finishes 2 kind.Load 5 1 ∷ [])
+        × (t.opened ≡ 2)

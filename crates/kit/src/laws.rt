@@ -2,7 +2,7 @@ ghost use Rattle.kit.specs.WorkedCases.{WorkedCases};
 
 use wire::link::Link;
 
-/// The worked cases of the limits, over any link.
+/// The worked cases, over any link.
 pub fn worked_cases<L: Link>(_link: &L)
-    ensures { WorkedCases L.limit L.waiting }
+    ensures { WorkedCases L.Link.limit L.waiting L.Choice.joins L.Choice.chooses }
 {}

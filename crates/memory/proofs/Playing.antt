@@ -36,25 +36,25 @@ pub record Move : Type 0 where
   pub posted : List Message
   pub after : Desk
 
-abbrev turn : {A : Type 0} → List (ℕ × Bool) → (A → Answer) → ℕ → Outcome A → Kit → List Message → Move
+abbrev pub turn : {A : Type 0} → List (ℕ × Bool) → (A → Answer) → ℕ → Outcome A → Kit → List Message → Move
 turn asked says board o kit messages = record { asked = asked; answer = says o.answer; posted = o.posts; after = record { kit = with_board kit board o.board; messages = o.posts ++ messages } }
 
 -- the message at the place that a delivery picks, and the others
-abbrev picked : Desk → ℕ → Message
+abbrev pub picked : Desk → ℕ → Message
 picked d pick = get_or d.messages pick blank
 
-abbrev left : Desk → ℕ → List Message
+abbrev pub left : Desk → ℕ → List Message
 left d pick = remove d.messages pick
 
-abbrev is_there : Desk → Call → Bool
+abbrev pub is_there : Desk → Call → Bool
 is_there d (Load board address) = true
 is_there d (Store board address word) = true
 is_there d (Deliver pick) = nat_lt pick (length d.messages)
 
-abbrev asks_access : Desk → ℕ → ℕ → List (ℕ × Bool)
+abbrev pub asks_access : Desk → ℕ → ℕ → List (ℕ × Bool)
 asks_access d board address = (1, nat_lt board d.kit.boards) ∷ lone.access_questions (board_at d.kit board) address
 
-abbrev asks_arrival : Desk → Message → List (ℕ × Bool)
+abbrev pub asks_arrival : Desk → Message → List (ℕ × Bool)
 asks_arrival d m = message_questions m ++ (15, nat_lt m.to d.kit.boards && lone.belongs (board_at d.kit m.to) m) ∷ (16, lone.expects (board_at d.kit m.to) m) ∷ []
 
 abbrev arrive : Desk → Message → List Message → Move
@@ -81,22 +81,22 @@ is_nothing None = true
 is_nothing (Some n) = false
 
 -- no call is refused, and never do more than so many messages wait
-abbrev taken : ℕ → Desk → Call → Bool
+abbrev pub taken : ℕ → Desk → Call → Bool
 taken most d c = nat_le (length d.messages) most && is_there d c && is_nothing (first_no (move d c).asked)
 
 abbrev pub goes : ℕ → Desk → List Call → Bool
 goes most d [] = true
 goes most d (c ∷ cs) = taken most d c && goes most (move d c).after cs
 
-nothing_is : (o : Option ℕ) → is_nothing o ≡ true → o ≡ None
+pub nothing_is : (o : Option ℕ) → is_nothing o ≡ true → o ≡ None
 nothing_is None h = refl
 nothing_is (Some n) h = let never : false ≡ true = h in absurd (cc)
 
-beside : {X : Type 0} (xs ys : List X) → bag (xs ++ ys) ≡ xs ⊕ bag ys
+pub beside : {X : Type 0} (xs ys : List X) → bag (xs ++ ys) ≡ xs ⊕ bag ys
 beside [] ys = refl
 beside (x ∷ xs) ys = ap (λ b. x & b) (beside xs ys)
 
-has_room : (limit most : ℕ) (k : Kit) (b : Bag Message) → most + 16 ≤ limit → size b ≤ most → first_no (room (record { kit = k; limit = limit; waiting = b })) ≡ None
+pub has_room : (limit most : ℕ) (k : Kit) (b : Bag Message) → most + 16 ≤ limit → size b ≤ most → first_no (room (record { kit = k; limit = limit; waiting = b })) ≡ None
 has_room limit most k b r few = rw (le-leb (size b + 16) limit (omega (arith, r, few))) refl
 
 -- a call that is asked no more than what is answered yes does its move

@@ -2,5 +2,6 @@
 
 pub mod one_place;
 pub mod piles;
+pub mod placed_word;
 #[cfg(test)]
 mod tests;

@@ -1,8 +1,11 @@
 use super::refusal;
+use crate::placed_word::placed_word;
+use board::answer::{AccessAnswer, Arrival, Finished};
+use board::request::AccessKind;
 use kit::loading::Loading;
 use std::test::Fail;
 use wire::link::Link;
-use wire::message::Message;
+use wire::message::{Kind, Message};
 use wire::pool::Pool;
 use wire::queue::Queue;
 
@@ -73,4 +76,41 @@ fn placing(rt: HostRuntime) -> Result<(), Fail> {
         assert_eq!(rt; refusal(kit.place(address, 7)), number);
     }
     Ok(())
+}
+
+#[test]
+fn placed(rt: HostRuntime) -> Result<(), Fail> {
+    assert_eq!(rt; placed_word(7)?, AccessAnswer::Answered { word: 7 });
+    Ok(())
+}
+
+#[test]
+fn passing_on(rt: HostRuntime) -> Result<(), Fail> {
+    // board 1 stores and comes to own the page; board 2 hints at board 0, which passes its request on
+    let mut kit = Loading::new(Queue::new(25)?, 3, 1)?.start();
+    assert_eq!(rt; kit.store(1, 0, 5)?, AccessAnswer::Opened);
+    assert_eq!(rt; kit.deliver(0)?, moved(0, Kind::WriteRequest, 0));
+    assert_eq!(rt; kit.deliver(0)?, finished(1, AccessKind::Store, 0));
+    assert_eq!(rt; kit.load(2, 0)?, AccessAnswer::Opened);
+    assert_eq!(rt; kit.deliver(0)?, moved(0, Kind::ReadRequest, 0));
+    assert_eq!(rt; kit.deliver(0)?, moved(1, Kind::ReadRequest, 1));
+    assert_eq!(rt; kit.deliver(0)?, finished(2, AccessKind::Load, 1));
+    assert_eq!(rt; kit.deliver(0)?, None);
+    assert_eq!(rt; kit.opened(), 2);
+    Ok(())
+}
+
+fn moved(board: u8, kind: Kind, hops: u8) -> Option<Arrival> {
+    Some(Arrival::Moved { board, kind, hops })
+}
+
+/// An access of address 0 with word 5.
+fn finished(board: u8, kind: AccessKind, hops: u8) -> Option<Arrival> {
+    Some(Arrival::Finished(Finished {
+        board,
+        kind,
+        address: 0,
+        word: 5,
+        hops,
+    }))
 }
