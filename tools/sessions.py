@@ -192,7 +192,7 @@ def files():
         yield CRATE / "data" / f"{name}.script", script
         yield CRATE / "data" / f"{name}.listing", listing
         names += f"{name}\n"
-        printed += f"{name}: {len(listing) // 16} records, the listing agrees\n"
+        printed += f"{name}: {len(listing) // 16} records, the listing agrees, and over two caps\n"
     yield CRATE / "stdin", names.encode()
     yield CRATE / "stdout", printed.encode()
 

@@ -1,6 +1,7 @@
 #![tactic(auto)]
 
 mod listing;
+mod piles;
 mod session;
 
 use std::io;
