@@ -19,7 +19,8 @@ use Rattle.memory.specs.declared.call.Call.{Call}
 use Rattle.memory.specs.declared.call.Call.TheVariants.{Load, Store, Deliver}
 use Rattle.memory.proofs.Playing.{Desk, running, move, turn, is_there, asks_access, asks_arrival, taken, goes, nothing_is, beside, has_room}
 use Rattle.memory.proofs.Witnesses.{desk}
-use Rattle.kit.specs.Runs.{opened_after, running_of}
+use Rattle.kit.specs.OpenedCount.{opened_after}
+use Rattle.kit.specs.Runs.{running_of}
 use Rattle.kit.specs.WorkedCases.{JustStarted, CallsGoOn}
 use Rattle.kit.specs.declared.running.Running.{Running}
 use Rattle.kit.proofs.OneItem.{only_one}
