@@ -1,6 +1,7 @@
 -- A kit on which at most one message waits has no choice: calls on it do what they do when they are played.
 use Rattle.std.proofs.Common.{◌≡◌, ℕ, ◌*◌, ◌<◌, ◌≤◌, nat_le, Bool, true, ◌&&◌, List, [], ◌∷◌, ◌++◌, length, map, None, Ok, Err, Option, Result, refl, inl, inr, ap, ◌∙◌, sym, subst, arith}
 use Rattle.std.proofs.lemmas.Bool.{and_parts, ltb-true, leb-true}
+use Rattle.std.proofs.lemmas.List.{map-append}
 use Rattle.std.proofs.lemmas.Option.{none-some}
 use Rattle.wire.specs.Bags.{Bag, empty, bag, size}
 use Rattle.wire.specs.Faults.{number}
@@ -12,6 +13,7 @@ use Rattle.wire.proofs.Questions.{passed_before}
 use Rattle.lone.specs.Calls.{Outcome, load_at, store_at, arrive_at}
 use Rattle.memory.specs.Calls as calls
 use Rattle.memory.specs.Calls.{Answers, Delivers, DoesCall, room, without, arrival_questions}
+use Rattle.memory.specs.Histories.{Event, History}
 use Rattle.memory.specs.Kits.{Kit, board_at, with_board}
 use Rattle.memory.specs.declared.answer.Answer.{Answer}
 use Rattle.memory.specs.declared.answer.Answer.TheVariants.{Accessed, Arrived}
@@ -19,8 +21,10 @@ use Rattle.memory.specs.declared.call.Call.{Call}
 use Rattle.memory.specs.declared.call.Call.TheVariants.{Load, Store, Deliver}
 use Rattle.memory.proofs.Playing.{Desk, running, move, turn, is_there, asks_access, asks_arrival, taken, goes, nothing_is, beside, has_room}
 use Rattle.memory.proofs.Witnesses.{desk}
-use Rattle.kit.specs.Runs.{opened_after, running_of}
-use Rattle.kit.specs.WorkedCases.{JustStarted, CallsGoOn}
+use Rattle.kit.specs.OpenedCount.{opened_after}
+use Rattle.kit.specs.Runs.{running_of, GoesOn}
+use Rattle.kit.specs.Plays.{CarriedOut, nothing_yet, one_more, PlayedFrom}
+use Rattle.kit.specs.WorkedCases.{JustStarted}
 use Rattle.kit.specs.declared.running.Running.{Running}
 use Rattle.kit.proofs.OneItem.{only_one}
 
@@ -79,9 +83,31 @@ opened_after_each n [] = n
 opened_after_each n (a ∷ rest) = opened_after_each (opened_after n a) rest
 
 module _ {L : Type 0} (limit : L → ℕ) (waiting : L → Bag Message) (joins : L → Message → Result (Unit {0}) Fault → L → Type 0) (chooses : L → ℕ → Option Message → L → Type 0) where
+  -- calls on r, one after another, have these answers, and leave t
+  abbrev pub CallsGoOn : List Call → List (Result Answer Fault) → Running L → Running L → Type 0
+  CallsGoOn [] [] r t = t ≡ r
+  CallsGoOn (call ∷ calls) (answer ∷ answers) r t = (s : Running L) × GoesOn limit waiting joins chooses call answer r s × CallsGoOn calls answers s t
+  CallsGoOn [] (answer ∷ answers) r t = ⊥
+  CallsGoOn (call ∷ calls) [] r t = ⊥
+
+  goes_more : (cs : List Call) (answers : List (Result Answer Fault)) (r s t : Running L) (c : Call) (a : Result Answer Fault) → CallsGoOn cs answers r s → GoesOn limit waiting joins chooses c a s t →
+      CallsGoOn (cs ++ c ∷ []) (answers ++ a ∷ []) r t
+  goes_more [] [] r s t c a on more = (t, subst (λ x. GoesOn limit waiting joins chooses c a x t) on more, refl)
+  goes_more [] (b ∷ answers) r s t c a on more = absurd on
+  goes_more (d ∷ cs) [] r s t c a on more = absurd on
+  goes_more (d ∷ cs) (b ∷ answers) r s t c a on more = (on.0, on.1, goes_more cs answers on.0 s t c a on.2 more)
+
+  as_calls : {r t : Running L} {h : History} → CarriedOut limit waiting joins chooses r h t → CallsGoOn (map (λ e. e.call) h) (map (λ e. e.answer) h) r t
+  as_calls nothing_yet = refl
+  as_calls {r} {t} (one_more {h} {s} call answer before on) =
+      let e : Event = record { call = call; answer = answer; posted = on.posted } in
+      subst (λ cs. CallsGoOn cs (map (λ e. e.answer) (h ++ e ∷ [])) r t) (sym (map-append (λ e. e.call) h (e ∷ [])))
+      (subst (λ answers. CallsGoOn (map (λ e. e.call) h ++ call ∷ []) answers r t) (sym (map-append (λ e. e.answer) h (e ∷ [])))
+      (goes_more (map (λ e. e.call) h) (map (λ e. e.answer) h) r s t call answer (as_calls before) on))
+
   -- calls on a kit that is as on the desk
   all_forced : (first_limit : ℕ) (d : Desk) (cs : List Call) (answers : List (Result Answer Fault)) (r t : Running L) → 17 ≤ first_limit → goes 1 d (map first_pick cs) ≡ true →
-      running_of limit waiting r ≡ running first_limit d → CallsGoOn limit waiting joins chooses cs answers r t → answers ≡ answers_of d cs
+      running_of limit waiting r ≡ running first_limit d → CallsGoOn cs answers r t → answers ≡ answers_of d cs
   all_forced first_limit d [] [] r t room g same on = refl
   all_forced first_limit d [] (a ∷ answers) r t room g same on = absurd on
   all_forced first_limit d (c ∷ cs) [] r t room g same on = absurd on
@@ -98,7 +124,7 @@ module _ {L : Type 0} (limit : L → ℕ) (waiting : L → Bag Message) (joins :
       cc
 
   -- the opened count is told by the answers
-  all_counted : (cs : List Call) (answers : List (Result Answer Fault)) (r t : Running L) → CallsGoOn limit waiting joins chooses cs answers r t → t.opened ≡ opened_after_each r.opened answers
+  all_counted : (cs : List Call) (answers : List (Result Answer Fault)) (r t : Running L) → CallsGoOn cs answers r t → t.opened ≡ opened_after_each r.opened answers
   all_counted [] [] r t on = ap (λ x. x.opened) on
   all_counted [] (a ∷ answers) r t on = absurd on
   all_counted (c ∷ cs) [] r t on = absurd on
@@ -106,7 +132,8 @@ module _ {L : Type 0} (limit : L → ℕ) (waiting : L → Bag Message) (joins :
 
   -- calls on a kit just started
   pub played : (n : ℕ) (cs : List Call) (answers : List (Result Answer Fault)) (r t : Running L) → JustStarted limit waiting n r → 1 ≤ n * n → goes 1 (desk n) (map first_pick cs) ≡ true →
-      CallsGoOn limit waiting joins chooses cs answers r t → (answers ≡ answers_of (desk n) cs) × (t.opened ≡ opened_after_each 0 (answers_of (desk n) cs))
-  played n cs answers r t k some g on =
+      PlayedFrom limit waiting joins chooses r cs answers t → (answers ≡ answers_of (desk n) cs) × (t.opened ≡ opened_after_each 0 (answers_of (desk n) cs))
+  played n cs answers r t k some g p =
+      let on : CallsGoOn cs answers r t = subst (λ x. CallsGoOn x answers r t) p.calls_are (subst (λ x. CallsGoOn (map (λ e. e.call) p.history) x r t) p.answers_are (as_calls p.carried_out)) in
       let told = all_forced k.first_limit (desk n) cs answers r t (omega (arith, some, k.may_begin.room)) g k.begins on in
       (told, all_counted cs answers r t on ∙ ap (λ m. opened_after_each m answers) k.none_opened ∙ ap (opened_after_each 0) told)

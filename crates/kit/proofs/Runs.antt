@@ -20,7 +20,9 @@ use Rattle.memory.specs.declared.answer.Answer.TheVariants.{Accessed, Arrived, Q
 use Rattle.memory.specs.declared.call.Call.TheVariants.{Load, Store, Deliver}
 use Rattle.memory.proofs.OneMemory.{is_one_memory, is_willing, never_refuses}
 use Rattle.kit.specs.Clusters.{kit_of, over}
-use Rattle.kit.specs.Runs.{opened_by, openings, counted, opened_after, running_of, LeadsTo, Kept, GoesOn, accessed, delivered}
+use Rattle.kit.specs.KitAnswers.{accessed, delivered}
+use Rattle.kit.specs.OpenedCount.{opened_by, openings, counted, opened_after}
+use Rattle.kit.specs.Runs.{running_of, LeadsTo, Kept, GoesOn}
 use Rattle.kit.specs.Steps.{Steps}
 use Rattle.kit.specs.declared.running.Running.{Running}
 

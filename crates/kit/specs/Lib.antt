@@ -2,6 +2,8 @@ pub mod Clusters
 pub mod Forms
 pub mod KitQuestions
 pub mod Plays
+pub mod KitAnswers
+pub mod OpenedCount
 pub mod Runs
 pub mod Steps
 pub mod WorkedCases

@@ -1,13 +1,10 @@
 -- What a call on a running kit does, and what becomes of every history that led to the kit.
-use Rattle.std.specs.Prelude.{◌≡◌, ℕ, ◌+◌, min, List, [], ◌∷◌, ◌++◌, Some, None, Ok, Err, Option, Result, OnErr}
+use Rattle.std.specs.Prelude.{◌≡◌, ℕ, List, [], ◌∷◌, ◌++◌, Some, None, Ok, Err, Option, Result, OnErr}
 use Rattle.std.proofs.Common.{inl, inr}
 use Rattle.wire.specs.Bags.{Bag}
 use Rattle.wire.specs.Links.{InTurn}
 use Rattle.wire.specs.declared.fault.Fault.{Fault}
 use Rattle.wire.specs.declared.message.Message.{Message}
-use Rattle.board.specs.declared.answer.AccessAnswer.{AccessAnswer}
-use Rattle.board.specs.declared.answer.AccessAnswer.TheVariants.{Answered, Opened}
-use Rattle.board.specs.declared.answer.Arrival.{Arrival}
 use Rattle.memory.specs.declared.answer.Answer.{Answer}
 use Rattle.memory.specs.declared.answer.Answer.TheVariants.{Accessed, Arrived, Quiet}
 use Rattle.memory.specs.declared.call.Call.{Call}
@@ -22,43 +19,8 @@ use Rattle.memory.specs.Promises.{NothingIsRefused}
 use Rattle.memory.specs.Reached.{MayBegin, begun, Reached}
 use Rattle.memory.specs.Willing.{Willing}
 use Rattle.kit.specs.Clusters.{over}
+use Rattle.kit.specs.OpenedCount.{openings, counted, opened_after}
 use Rattle.kit.specs.declared.running.Running.{Running}
-
--- The answers of the code's calls.
-
-abbrev pub accessed : Result AccessAnswer Fault → Result Answer Fault
-accessed (Ok answer) = Ok (Accessed answer)
-accessed (Err fault) = Err fault
-
--- a delivery without an arrival is quiet
-abbrev pub delivered : Result (Option Arrival) Fault → Result Answer Fault
-delivered (Ok None) = Ok Quiet
-delivered (Ok (Some arrival)) = Ok (Arrived arrival)
-delivered (Err fault) = Err fault
-
--- The opened count: how many accesses were opened, in 32 bits, stopping at the largest.
-
-abbrev pub opened_by : Result Answer Fault → ℕ
-opened_by (Ok (Accessed (Answered word))) = 0
-opened_by (Ok (Accessed Opened)) = 1
-opened_by (Ok (Arrived arrival)) = 0
-opened_by (Ok Quiet) = 0
-opened_by (Err fault) = 0
-
-abbrev pub openings : History → ℕ
-openings [] = 0
-openings (e ∷ h) = opened_by e.answer + openings h
-
-abbrev pub counted : ℕ → ℕ
-counted n = min n 4294967295
-
--- the count after one more answer
-abbrev pub opened_after : ℕ → Result Answer Fault → ℕ
-opened_after n (Ok (Accessed (Answered word))) = n
-opened_after n (Ok (Accessed Opened)) = counted (n + 1)
-opened_after n (Ok (Arrived arrival)) = n
-opened_after n (Ok Quiet) = n
-opened_after n (Err fault) = n
 
 -- the message that a call takes from the link
 abbrev pub taken : (call : Call) (s : calls.Running) (answer : Result Answer Fault) (posted : List Message) (t : calls.Running) → DoesCall call s answer posted t → Option Message

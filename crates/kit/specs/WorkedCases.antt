@@ -16,10 +16,10 @@ use Rattle.board.specs.declared.request.AccessKind.TheVariants as kind
 use Rattle.memory.specs.Reached.{MayBegin, begun}
 use Rattle.memory.specs.declared.answer.Answer.{Answer}
 use Rattle.memory.specs.declared.answer.Answer.TheVariants.{Accessed, Arrived}
-use Rattle.memory.specs.declared.call.Call.{Call}
 use Rattle.memory.specs.declared.call.Call.TheVariants.{Load, Store, Deliver}
 use Rattle.kit.specs.KitQuestions.{making_questions, place_questions}
-use Rattle.kit.specs.Runs.{running_of, GoesOn}
+use Rattle.kit.specs.Plays.{PlayedFrom}
+use Rattle.kit.specs.Runs.{running_of}
 use Rattle.kit.specs.declared.running.Running.{Running}
 
 -- The answers of calls on a kit; the accesses are of address 0.
@@ -56,13 +56,6 @@ module _ {L : Type 0} (limit : L → ℕ) (waiting : L → Bag Message) where
     pub none_opened : r.opened ≡ 0
 
 module _ {L : Type 0} (limit : L → ℕ) (waiting : L → Bag Message) (joins : L → Message → Result (Unit {0}) Fault → L → Type 0) (chooses : L → ℕ → Option Message → L → Type 0) where
-  -- calls on r, one after another, have these answers, and leave t
-  abbrev pub CallsGoOn : List Call → List (Result Answer Fault) → Running L → Running L → Type 0
-  CallsGoOn [] [] r t = t ≡ r
-  CallsGoOn (call ∷ calls) (answer ∷ answers) r t = (s : Running L) × GoesOn limit waiting joins chooses call answer r s × CallsGoOn calls answers s t
-  CallsGoOn [] (answer ∷ answers) r t = ⊥
-  CallsGoOn (call ∷ calls) [] r t = ⊥
-
   pub record WorkedCases : Type 0 where
     -- a kit of 16 boards wants a link of limit 272
     pub limit_too_low : first_no (making_questions 16 16 271 0) ≡ Some 6
@@ -86,11 +79,11 @@ module _ {L : Type 0} (limit : L → ℕ) (waiting : L → Bag Message) (joins :
     -- a take on an empty link says that nothing waits, and changes nothing
     pub nothing_waits : (a b : L) → size (waiting a) ≡ 0 → (take : Take limit waiting a b) → (take.answer ≡ None) × (b ≡ a)
     -- one board stores 5 and loads it: both are answered with 5 within their calls, and no access was opened
-    pub one_board : (r t : Running L) (answers : List (Result Answer Fault)) → JustStarted limit waiting 1 r → CallsGoOn (Store 0 0 5 ∷ Load 0 0 ∷ []) answers r t →
+    pub one_board : (r t : Running L) (answers : List (Result Answer Fault)) → JustStarted limit waiting 1 r → PlayedFrom limit waiting joins chooses r (Store 0 0 5 ∷ Load 0 0 ∷ []) answers t →
         (answers ≡ at_once 5 ∷ at_once 5 ∷ []) × (t.opened ≡ 0)
     -- of three boards, board 1 stores 5 and comes to own the page, and board 2, which still hints at board 0, loads it:
     -- board 0 passes the request on to board 1, so that the load finishes with hops 1, and two accesses were opened
     pub passed_on : (a b c d e : ℕ) (r t : Running L) (answers : List (Result Answer Fault)) → JustStarted limit waiting 3 r →
-        CallsGoOn (Store 1 0 5 ∷ Deliver a ∷ Deliver b ∷ Load 2 0 ∷ Deliver c ∷ Deliver d ∷ Deliver e ∷ []) answers r t →
+        PlayedFrom limit waiting joins chooses r (Store 1 0 5 ∷ Deliver a ∷ Deliver b ∷ Load 2 0 ∷ Deliver c ∷ Deliver d ∷ Deliver e ∷ []) answers t →
         (answers ≡ opens ∷ moves 0 WriteRequest 0 ∷ finishes 1 kind.Store 5 0 ∷ opens ∷ moves 0 ReadRequest 0 ∷ moves 1 ReadRequest 1 ∷ finishes 2 kind.Load 5 1 ∷ [])
         × (t.opened ≡ 2)

@@ -22,7 +22,9 @@ impl<L: Link> Running<L> {
     ghost use Rattle.std.specs.Prelude.{◌≡◌, ◌+◌, Ok};
     ghost use Rattle.memory.specs.declared.answer.Answer.TheVariants.{Accessed};
     ghost use Rattle.memory.specs.declared.call.Call.TheVariants.{Load, Store, Deliver};
-    ghost use Rattle.kit.specs.Runs.{GoesOn, NothingChanges, accessed, delivered, opened_after};
+    ghost use Rattle.kit.specs.KitAnswers.{accessed, delivered};
+    ghost use Rattle.kit.specs.OpenedCount.{opened_after};
+    ghost use Rattle.kit.specs.Runs.{GoesOn, NothingChanges};
 
     /// A kit just started.
     pub(crate) fn new(cluster: Cluster, link: L) -> Running<L>

@@ -16,7 +16,8 @@ use Rattle.memory.specs.declared.call.Call.TheVariants.{Load, Store, Deliver}
 use Rattle.script.specs.Choosing.{Taken, taken}
 use Rattle.script.specs.Digits.{digits, numeral}
 use Rattle.script.specs.Laws.{echo_letter, Echoed, WholeLines}
-use Rattle.script.specs.Lines.{numbers_of, line_of, text, letter_a, letter_o}
+use Rattle.script.specs.Lines.{numbers_of, line_of, text}
+use Rattle.script.specs.Letters.{letter_a, letter_o}
 use Rattle.script.specs.Plays.{Bench, no_kit, loading, running, Done, ran, delivered, accepted, decided, record_questions, carried_out, outcome, line, after, ends, answers}
 use Rattle.script.specs.Records.{record_at, record_count, records, form, framed, numbers_in, call_of, link_number}
 use Rattle.script.specs.declared.answer.Answer.{Answer}

@@ -6,7 +6,8 @@ use Rattle.std.proofs.lemmas.Bool.Decides.{nat_tests}
 use Rattle.wire.specs.Questions.{first_no}
 use Rattle.script.specs.Lines.{line_of, refused_line, text}
 use Rattle.script.specs.Plays.{Bench, Done, Outcome, accepted, refused, decided, outcome, line, after, ends, answers, record_questions, carried_out}
-use Rattle.script.specs.Records.{form, letter_k}
+use Rattle.script.specs.Records.{form}
+use Rattle.script.specs.Letters.{letter_k}
 use Rattle.script.specs.declared.line.Line.{Line}
 
 -- a record begins with K where its first character is one

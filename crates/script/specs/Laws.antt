@@ -6,7 +6,8 @@ use Rattle.memory.specs.declared.answer.Answer.TheVariants.{Accessed, Arrived, Q
 use Rattle.script.specs.declared.answer.Answer.{Answer}
 use Rattle.script.specs.declared.answer.Answer.TheVariants.{Made, Placed, Ran}
 use Rattle.script.specs.Digits.{digits, numeral}
-use Rattle.script.specs.Lines.{line_of, text, letter_a, letter_o}
+use Rattle.script.specs.Lines.{line_of, text}
+use Rattle.script.specs.Letters.{letter_a, letter_o}
 use Rattle.script.specs.Plays.{Bench, Done, outcome, accepted, listing}
 use Rattle.script.specs.Records.{record_count}
 

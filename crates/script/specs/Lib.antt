@@ -1,5 +1,6 @@
 pub mod Steps
 pub mod Digits
+pub mod Letters
 pub mod Records
 pub mod Lines
 pub mod Choosing

@@ -9,30 +9,12 @@ use Rattle.memory.specs.declared.answer.Answer.TheVariants.{Accessed, Arrived, Q
 use Rattle.memory.specs.declared.call.Call.{Call as KitCall}
 use Rattle.memory.specs.declared.call.Call.TheVariants.{Load, Store, Deliver}
 use Rattle.script.specs.Digits.{digits}
+use Rattle.script.specs.Letters.{letter_a, letter_o, letter_m, letter_f, letter_q, letter_x}
 use Rattle.script.specs.Records.{link_number}
 use Rattle.script.specs.declared.line.Line.{Line}
 use Rattle.script.specs.declared.numbers.Numbers.{Numbers}
 use Rattle.script.specs.declared.answer.Answer.{Answer}
 use Rattle.script.specs.declared.answer.Answer.TheVariants.{Made, Placed, Ran}
-
--- the letters: answered, opened, moved, finished, quiet and refused
-abbrev pub letter_a : ℕ
-letter_a = 65
-
-abbrev pub letter_o : ℕ
-letter_o = 79
-
-abbrev pub letter_m : ℕ
-letter_m = 77
-
-abbrev pub letter_f : ℕ
-letter_f = 70
-
-abbrev pub letter_q : ℕ
-letter_q = 81
-
-abbrev pub letter_x : ℕ
-letter_x = 88
 
 -- a refusal has its number in the three digits
 abbrev pub refused_line : ℕ → Line

@@ -15,7 +15,8 @@ use Rattle.memory.specs.Placements.{placed}
 use Rattle.kit.specs.KitQuestions.{making_questions, place_questions}
 use Rattle.script.specs.Choosing.{Taken, taken}
 use Rattle.script.specs.Lines.{line_of, refused_line, text}
-use Rattle.script.specs.Records.{records, form, letter_k}
+use Rattle.script.specs.Records.{records, form}
+use Rattle.script.specs.Letters.{letter_k}
 use Rattle.script.specs.Steps.{◌>>=◌}
 use Rattle.script.specs.declared.answer.Answer.{Answer}
 use Rattle.script.specs.declared.answer.Answer.TheVariants.{Made, Placed, Ran}

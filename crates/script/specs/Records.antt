@@ -2,6 +2,7 @@
 use Rattle.std.specs.Prelude.{ℕ, ◌+◌, ◌-◌, ◌*◌, ◌/◌, ◌%◌, min, Bool, cond, ◌&&◌, List, map, length, take, drop, Some, None, Option, ◌==◌, slice_index}
 use Rattle.std.specs.List.{between, range_with_len}
 use Rattle.script.specs.Digits.{numeral}
+use Rattle.script.specs.Letters.{letter_k, letter_p, letter_l, letter_s, letter_d}
 use Rattle.script.specs.Steps.{◌>>=◌}
 use Rattle.memory.specs.declared.call.Call.TheVariants.{Load, Store, Deliver}
 use Rattle.script.specs.declared.call.Call.{Call}
@@ -35,22 +36,6 @@ link_of n = cond (n == link_number Queue) (Some Queue) (cond (n == link_number P
 abbrev pub kit_call : ℕ → ℕ → Option LinkKind → Option Call
 kit_call n p None = None
 kit_call n p (Some link) = Some (Kit (record { boards = n; pages = p; link = link }))
-
--- the letters K, P, L, S and D
-abbrev pub letter_k : ℕ
-letter_k = 75
-
-abbrev pub letter_p : ℕ
-letter_p = 80
-
-abbrev pub letter_l : ℕ
-letter_l = 76
-
-abbrev pub letter_s : ℕ
-letter_s = 83
-
-abbrev pub letter_d : ℕ
-letter_d = 68
 
 -- the call that a letter makes of its numbers; those that it has no use for are zero
 abbrev pub call_of : ℕ → Numbers → Option Call

@@ -1,5 +1,6 @@
 ghost use Rattle.std.specs.Prelude.{◌≡◌};
 ghost use Rattle.wire.specs.Faults.{number};
+ghost use Rattle.script.specs.Letters.{letter_a};
 ghost use Rattle.script.specs.Lines.{line_of, refused_line, numbers_of, arrival_line, ran_line};
 
 use crate::call::KitPlan;
@@ -74,7 +75,7 @@ impl From<KitCall> for Numbers {
 
 /// A line of A.
 fn answered(numbers: Numbers) -> Line
-    ensures { result ≡ record { letter = 65; numbers = numbers; hops = 0 } }
+    ensures { result ≡ record { letter = letter_a; numbers = numbers; hops = 0 } }
 {
     Line {
         letter: b'A',

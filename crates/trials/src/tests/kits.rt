@@ -3,7 +3,12 @@ use crate::placed_word::placed_word;
 use board::answer::{AccessAnswer, Arrival, Finished};
 use board::request::AccessKind;
 use kit::loading::Loading;
+use kit::play::{NotPlayed, play};
+use memory::answer::Answer;
+use memory::call::Call;
+use memory::placement::Placement;
 use std::test::Fail;
+use wire::fault::Fault;
 use wire::link::Link;
 use wire::message::{Kind, Message};
 use wire::pool::Pool;
@@ -97,6 +102,106 @@ fn passing_on(rt: HostRuntime) -> Result<(), Fail> {
     assert_eq!(rt; kit.deliver(0)?, finished(2, AccessKind::Load, 1));
     assert_eq!(rt; kit.deliver(0)?, None);
     assert_eq!(rt; kit.opened(), 2);
+    Ok(())
+}
+
+#[test]
+fn running_refusals(rt: HostRuntime) -> Result<(), Fail> {
+    // board, address, refusal of a load and of a store, while board 1 has an open load
+    let cases: [(u8, u32, u16); 8] = [
+        (2, 0, 1),
+        (255, 16, 1),
+        (0, 16, 2),
+        (1, 16, 2),
+        (1, u32::MAX, 2),
+        (1, 0, 3),
+        (1, 15, 3),
+        (0, 15, 0),
+    ];
+    let loading = Loading::new(Pool::new(20)?, 2, 1)?;
+    assert_eq!(rt; refusal(loading.ask_access(1, 0)), 0);
+    assert_eq!(rt; refusal(loading.ask_access(1, 16)), 2);
+    assert_eq!(rt; refusal(loading.ask_access(2, 16)), 1);
+    let mut kit = loading.start();
+    kit.load(1, 0)?;
+    for (board, address, number) in cases {
+        assert_eq!(rt; refusal(kit.load(board, address)), number);
+        assert_eq!(rt; refusal(kit.store(board, address, 9)), number);
+        assert_eq!(rt; kit.opened(), 1);
+    }
+    Ok(())
+}
+
+#[test]
+fn plays_a_list(rt: HostRuntime) -> Result<(), Fail> {
+    let words = [
+        Placement {
+            address: 3,
+            word: 8,
+        },
+        Placement {
+            address: 3,
+            word: 9,
+        },
+    ];
+    let calls = [
+        Call::Load {
+            board: 1,
+            address: 3,
+        },
+        Call::Load {
+            board: 1,
+            address: 3,
+        },
+        Call::Deliver { pick: 0 },
+        Call::Deliver { pick: 65535 },
+        Call::Deliver { pick: 0 },
+    ];
+    let answers = [
+        Ok(Answer::Accessed(AccessAnswer::Opened)),
+        Err(Fault::AccessOpen),
+        Ok(Answer::Arrived(Arrival::Moved {
+            board: 0,
+            kind: Kind::ReadRequest,
+            hops: 0,
+        })),
+        Ok(Answer::Arrived(Arrival::Finished(Finished {
+            board: 1,
+            kind: AccessKind::Load,
+            address: 3,
+            word: 9,
+            hops: 0,
+        }))),
+        Ok(Answer::Quiet),
+    ];
+    let played = play(rt.alloc(), Queue::new(288)?, 2, 1, &words, &calls);
+    assert!(rt; played.is_ok());
+    if let Ok(played) = played {
+        assert!(rt; played.answers.as_slice() == answers.as_slice());
+        assert_eq!(rt; played.kit.opened(), 1);
+    }
+    Ok(())
+}
+
+#[test]
+fn refused_lists(rt: HostRuntime) -> Result<(), Fail> {
+    // boards, pages, the address of a word, refusal: the kit is asked before its words
+    let cases: [(u8, u32, u32, u16); 5] = [
+        (0, 1, 16, 4),
+        (2, 17, 16, 5),
+        (17, 0, 16, 4),
+        (2, 1, 16, 2),
+        (2, 1, 15, 0),
+    ];
+    for (boards, pages, address, number) in cases {
+        let words = [Placement { address, word: 1 }];
+        let played = match play(rt.alloc(), Pool::new(288)?, boards, pages, &words, &[]) {
+            Ok(_) => 0,
+            Err(NotPlayed::Refused(fault)) => u16::from(fault),
+            Err(NotPlayed::NoMemory(_)) => 99,
+        };
+        assert_eq!(rt; played, number);
+    }
     Ok(())
 }
 

@@ -154,13 +154,13 @@ fn places(rt: HostRuntime) -> Result<(), Fail> {
 
 #[test]
 fn behind_a_kit(rt: HostRuntime) -> Result<(), Fail> {
-    // loads, stores and deliveries do not belong yet, and play goes on after them
+    // a load or a store that is refused does not start the kit: the place behind it belongs
     let cases = [
-        ("L0000000000000 \n", "X00018000000000\n"),
-        ("L9999900000000 \n", "X00018000000000\n"),
-        ("S01003000000ff \n", "X00018000000000\n"),
-        ("D0000000000000 \n", "X00018000000000\n"),
-        ("D0099900000000 \n", "X00018000000000\n"),
+        ("L0200000000000 \n", "X00001000000000\n"),
+        ("L9999900000000 \n", "X00001000000000\n"),
+        ("S02003000000ff \n", "X00001000000000\n"),
+        ("L0101600000000 \n", "X00002000000000\n"),
+        ("S00999000000ff \n", "X00002000000000\n"),
         ("L0000000000001 \n", "X00017000000000\n"),
         ("S0100300000FFF \n", "X00017000000000\n"),
         ("D0100000000000 \n", "X00017000000000\n"),
@@ -168,6 +168,52 @@ fn behind_a_kit(rt: HostRuntime) -> Result<(), Fail> {
         ("d0000000000000 \n", "X00017000000000\n"),
     ];
     expect_inside(&rt, rt.alloc(), &cases)
+}
+
+#[test]
+fn starts(rt: HostRuntime) -> Result<(), Fail> {
+    // a load, a store or a delivery that is accepted starts the kit: no place belongs behind it
+    let cases = [
+        ("L0000000000000 \n", "A00000000000000\n"),
+        ("L0101500000000 \n", "O01015000000000\n"),
+        ("S00003000000ff \n", "A00003000000ff0\n"),
+        ("S01003000000ff \n", "O01003000000ff0\n"),
+        ("D0000000000000 \n", "Q00000000000000\n"),
+        ("D0099900000000 \n", "Q00000000000000\n"),
+    ];
+    for (record, answer) in cases {
+        let script = format!(in rt.alloc(); "K0200100000001 \n{record}P0000100000007 \n")?;
+        let listing = format!(in rt.alloc(); "A02001000000010\n{answer}X00018000000000\n")?;
+        expect(&rt, rt.alloc(), script.as_bytes(), listing.as_bytes())?;
+    }
+    Ok(())
+}
+
+#[test]
+fn running(rt: HostRuntime) -> Result<(), Fail> {
+    // behind a load of board 1 that is open
+    let cases = [
+        ("L0100000000000 \n", "X00003000000000\n"),
+        ("S0100000000001 \n", "X00003000000000\n"),
+        ("L0101600000000 \n", "X00002000000000\n"),
+        ("L0201600000000 \n", "X00001000000000\n"),
+        ("L0000000000000 \n", "A00000000000070\n"),
+        ("S0000000000009 \n", "A00000000000090\n"),
+        ("D0000000000000 \n", "M00001000000000\n"),
+        ("K0200100000000 \n", "X00018000000000\n"),
+        ("K02001000000", "X00017000000000\n"),
+        ("L01000", "X00017000000000\n"),
+    ];
+    for (record, answer) in cases {
+        let script = format!(in rt.alloc();
+            "K0200100000000 \nP0000000000007 \nL0100000000000 \n{record}"
+        )?;
+        let listing = format!(in rt.alloc();
+            "A02001000000000\nA00000000000070\nO01000000000000\n{answer}"
+        )?;
+        expect(&rt, rt.alloc(), script.as_bytes(), listing.as_bytes())?;
+    }
+    Ok(())
 }
 
 #[test]
