@@ -152,7 +152,7 @@ module _ {L : Type 0} (limit : L → ℕ) (waiting : L → Bag Message) where
         GoesOn limit waiting joins chooses (Deliver pick) (Ok Quiet) r t
     quiet pick r t u taken chosen link kit opened =
         let does = inl (taken.0.0, refl, refl, rw (kit, link, taken.1) refl) in
-        record { posted = []; does = does; link = (u, chosen, link); opened = opened; kept = keeps (record { call = Deliver pick; answer = Ok Quiet; posted = [] }) r t does opened }
+        record { posted = []; does = does; link = subst (λ x. chooses r.link pick None x) (sym link) chosen; opened = opened; kept = keeps (record { call = Deliver pick; answer = Ok Quiet; posted = [] }) r t does opened }
 
   -- a kit just started
   pub begins : (n p first_limit : ℕ) (placements : List Placement) (r : Running L) → kit_of r.cluster ≡ after_placing n p placements → limit r.link ≡ first_limit → waiting r.link ≡ empty → r.opened ≡ 0 →

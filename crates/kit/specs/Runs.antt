@@ -22,21 +22,11 @@ use Rattle.kit.specs.Clusters.{over}
 use Rattle.kit.specs.OpenedCount.{openings, counted, opened_after}
 use Rattle.kit.specs.declared.running.Running.{Running}
 
--- the message that a call takes from the link
-abbrev pub taken : (call : Call) (s : calls.Running) (answer : Result Answer Fault) (posted : List Message) (t : calls.Running) → DoesCall call s answer posted t → Option Message
-taken (Load board address) s answer posted t does = None
-taken (Store board address word) s answer posted t does = None
-taken (Deliver pick) s answer posted t (inl quiet) = None
-taken (Deliver pick) s answer posted t (inr delivers) = Some delivers.message
-
 -- a load or a store that is refused changes nothing, and no more does a quiet delivery
 abbrev pub NothingChanges : {X : Type 0} → Call → Result Answer Fault → X → X → Type 0
 NothingChanges (Load board address) answer before after = OnErr answer (after ≡ before)
 NothingChanges (Store board address word) answer before after = OnErr answer (after ≡ before)
-NothingChanges (Deliver pick) (Ok (Accessed answer)) before after = Unit {0}
-NothingChanges (Deliver pick) (Ok (Arrived arrival)) before after = Unit {0}
-NothingChanges (Deliver pick) (Ok Quiet) before after = after ≡ before
-NothingChanges (Deliver pick) (Err fault) before after = Unit {0}
+NothingChanges (Deliver pick) answer before after = answer ≡ Ok Quiet → after ≡ before
 
 module _ {L : Type 0} (limit : L → ℕ) (waiting : L → Bag Message) where
   abbrev pub running_of : Running L → calls.Running
@@ -56,17 +46,18 @@ module _ {L : Type 0} (limit : L → ℕ) (waiting : L → Bag Message) where
 
 module _ {L : Type 0} (limit : L → ℕ) (waiting : L → Bag Message) (joins : L → Message → Result (Unit {0}) Fault → L → Type 0) (chooses : L → ℕ → Option Message → L → Type 0) where
   -- A load or a store posts on the link; a delivery takes from it first, with the pick. What is posted joins the link in its order.
-  abbrev pub LinkDoes : Call → Option Message → List Message → L → L → Type 0
-  LinkDoes (Load board address) message posted before after = InTurn joins posted before after
-  LinkDoes (Store board address word) message posted before after = InTurn joins posted before after
-  LinkDoes (Deliver pick) message posted before after = (between : L) × chooses before pick message between × InTurn joins posted between after
+  abbrev pub LinkDoes : (call : Call) (s : calls.Running) (answer : Result Answer Fault) (posted : List Message) (t : calls.Running) → DoesCall call s answer posted t → L → L → Type 0
+  LinkDoes (Load board address) s answer posted t does before after = InTurn joins posted before after
+  LinkDoes (Store board address word) s answer posted t does before after = InTurn joins posted before after
+  LinkDoes (Deliver pick) s answer posted t (inl quiet) before after = chooses before pick None after
+  LinkDoes (Deliver pick) s answer posted t (inr delivers) before after = (between : L) × chooses before pick (Some delivers.message) between × InTurn joins posted between after
 
   -- a call on r is answered, and leaves t
   pub record GoesOn (call : Call) (answer : Result Answer Fault) (r t : Running L) : Type 0 where
     pub posted : List Message
     -- the answer, the messages, the tables and what waits are those of the call's meaning
     pub does : DoesCall call (running_of limit waiting r) answer posted (running_of limit waiting t)
-    pub link : LinkDoes call (taken call (running_of limit waiting r) answer posted (running_of limit waiting t) does) posted r.link t.link
+    pub link : LinkDoes call (running_of limit waiting r) answer posted (running_of limit waiting t) does r.link t.link
     pub opened : t.opened ≡ opened_after r.opened answer
     -- every history that led to r leads to t with this call, and is one memory
     pub kept : (n p first_limit : ℕ) (placements : List Placement) → MayBegin n p first_limit placements → (history : History) → LeadsTo limit waiting n p first_limit placements history r →

@@ -17,15 +17,16 @@ pub struct Loading<L> {
 
 impl<L: Link + Drop> Loading<L> {
     ghost use Rattle.std.specs.Prelude.{◌≡◌, IfOk};
-    ghost use Rattle.wire.specs.Bags.{size};
+    ghost use Rattle.wire.specs.Bags.{empty, size};
     ghost use Rattle.wire.specs.Questions.{refusal, first_no};
     ghost use Rattle.memory.specs.Kits.{start_kit};
     ghost use Rattle.kit.specs.KitQuestions.{making_questions};
 
     /// A kit of `boards` boards and `pages` pages over an empty link.
+    #[tactic(auto, using(crate::proofs::Empty::nothing_in))]
     pub fn new(link: L, boards: u8, pages: u32) -> Result<Loading<L>, Fault>
         ensures refused { refusal result ≡ first_no (making_questions boards pages (L.limit link) (size (L.waiting link))) }
-        ensures made { IfOk result (λ k. (kit_of k.cluster ≡ start_kit boards pages) × (k.link ≡ link)) }
+        ensures made { IfOk result (λ k. (kit_of k.cluster ≡ start_kit boards pages) × (k.link ≡ link) × (L.waiting k.link ≡ empty)) }
     {
         let size = Size::new(boards, pages)?;
         if link.limit() < size.least_limit() {

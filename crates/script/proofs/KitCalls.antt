@@ -58,23 +58,19 @@ module _ (r t : Running NamedLink) (limit : limit_of r.link ≡ largest_limit) (
     pub says : Says (kind_of r.link) (kit_of r.cluster) (row_of r.link) call a posted (kit_of t.cluster) (row_of t.link)
     pub kind : kind_of t.link ≡ kind_of r.link
 
-  delivery_said : (pick : ℕ) (a : KitAnswer) (posted : List Message) (does : DoesCall (Deliver pick) (state r) (Ok a) posted (state t)) (between : NamedLink) →
-      chooses r.link pick (runs.taken (Deliver pick) (state r) (Ok a) posted (state t) does) between → InTurn joins posted between t.link → Said (Deliver pick) a
-  delivery_said pick a posted (inl q) between chosen turn =
-      let none : posted ≡ [] = q.2 in
-      let rows = in_turn posted between t.link turn in
-      let left : row_of t.link ≡ [] = rows.0 ∙ rw (none, chosen.0.1) refl in
+  delivery_said : (pick : ℕ) (a : KitAnswer) (posted : List Message) (does : DoesCall (Deliver pick) (state r) (Ok a) posted (state t)) →
+      runs.LinkDoes limit_of (λ s. bag (row_of s)) joins chooses (Deliver pick) (state r) (Ok a) posted (state t) does r.link t.link → Said (Deliver pick) a
+  delivery_said pick a posted (inl q) chosen = record {
+    posted = posted;
+    says = quiet_says (kit_of r.cluster) (limit_of r.link) (row_of r.link) (kind_of r.link) pick a posted (state t) q chosen.0.0 ∙ rw chosen.0.1 refl;
+    kind = chosen.1;
+  }
+  delivery_said pick a posted (inr d) link =
+      let rows = in_turn posted link.0 t.link link.2 in
       record {
         posted = posted;
-        says = quiet_says (kit_of r.cluster) (limit_of r.link) (row_of r.link) (kind_of r.link) pick a posted (state t) q chosen.0.0 ∙ rw left refl;
-        kind = rows.1 ∙ chosen.1;
-      }
-  delivery_said pick a posted (inr d) between chosen turn =
-      let rows = in_turn posted between t.link turn in
-      record {
-        posted = posted;
-        says = arrival_says (kit_of r.cluster) (limit_of r.link) (row_of r.link) (kind_of r.link) pick a posted (state t) d (row_of between) (row_of t.link) chosen.0 rows.0;
-        kind = rows.1 ∙ chosen.1;
+        says = arrival_says (kit_of r.cluster) (limit_of r.link) (row_of r.link) (kind_of r.link) pick a posted (state t) d (row_of link.0) (row_of t.link) link.1.0 rows.0;
+        kind = rows.1 ∙ link.1.1;
       }
 
   pub said : (call : KitCall) (a : KitAnswer) → Runs call (Ok a) r t → Said call a
@@ -92,7 +88,7 @@ module _ (r t : Running NamedLink) (limit : limit_of r.link ≡ largest_limit) (
         says = access_says (kit_of r.cluster) (limit_of r.link) (row_of r.link) (kind_of r.link) (Store board address word) board address (lone.store_at (board_at (kit_of r.cluster) board) address word) a g.posted (state t) (row_of t.link) g.does rows.0;
         kind = rows.1;
       }
-  said (Deliver pick) a g = delivery_said pick a g.posted g.does g.link.0 g.link.1 g.link.2
+  said (Deliver pick) a g = delivery_said pick a g.posted g.does g.link
 
   pub came_on : (call : KitCall) (a : KitAnswer) → Runs call (Ok a) r t → (limit_of t.link ≡ largest_limit) × Came (kit_of t.cluster) (row_of t.link)
   came_on call a g =

@@ -209,9 +209,9 @@ module _ (plan : KitPlan) where
   one_memory_since no_kit ds since = absurd since.tells
   one_memory_since (loading link k) ds since =
       let reached = started_since link k ds since in
-      (is_one_memory plan.boards plan.pages largest_limit (words_after [] ds) since.may (history_of ds) (over_link k []) reached, is_willing plan.boards plan.pages largest_limit (words_after [] ds) since.may (history_of ds) (over_link k []) reached)
+      (over_link k [], reached, is_one_memory plan.boards plan.pages largest_limit (words_after [] ds) since.may (history_of ds) (over_link k []) reached, is_willing plan.boards plan.pages largest_limit (words_after [] ds) since.may (history_of ds) (over_link k []) reached)
   one_memory_since (running link k row) ds since =
-      (is_one_memory plan.boards plan.pages largest_limit (words_after [] ds) since.may (history_of ds) (over_link k row) since.tells, is_willing plan.boards plan.pages largest_limit (words_after [] ds) since.may (history_of ds) (over_link k row) since.tells)
+      (over_link k row, since.tells, is_one_memory plan.boards plan.pages largest_limit (words_after [] ds) since.may (history_of ds) (over_link k row) since.tells, is_willing plan.boards plan.pages largest_limit (words_after [] ds) since.may (history_of ds) (over_link k row) since.tells)
 
 -- Before a kit is made nothing is carried out but the record that makes it.
 made_first : (rs : List (List ℕ)) (call : Call) (done : Done) → first_no (record_questions no_kit (Some call)) ≡ None → carried_out no_kit call ≡ Some done → OneMemorySince done.answer (done_by done.bench rs)

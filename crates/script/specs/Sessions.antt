@@ -6,6 +6,9 @@ use Rattle.memory.specs.OneMemory.{OneMemory}
 use Rattle.memory.specs.Placements.{array}
 use Rattle.memory.specs.declared.placement.Placement.{Placement}
 use Rattle.memory.specs.Willing.{Willing}
+use Rattle.memory.specs.Calls.{Running}
+use Rattle.memory.specs.Reached.{begun, Reached}
+use Rattle.wire.specs.Links.{largest_limit}
 use Rattle.script.specs.Plays.{Bench, no_kit, Done, Outcome, accepted, refused, outcome, after, ends}
 use Rattle.script.specs.Records.{records}
 use Rattle.script.specs.declared.answer.Answer.{Answer}
@@ -43,7 +46,7 @@ history_of (d ∷ ds) = event_of d.answer d.posted ++ history_of ds
 
 -- what was done first made a kit, and all that it answered since is one memory, and that of a willing kit
 abbrev pub OneMemorySince : Answer → List Done → Type 0
-OneMemorySince (Made plan) ds = OneMemory plan.boards (array (words_after [] ds)) (history_of ds) × Willing plan.boards plan.pages (array (words_after [] ds)) (history_of ds)
+OneMemorySince (Made plan) ds = (s : Running) × Reached (begun plan.boards plan.pages largest_limit (words_after [] ds)) (history_of ds) s × OneMemory plan.boards (array (words_after [] ds)) (history_of ds) × Willing plan.boards plan.pages (array (words_after [] ds)) (history_of ds)
 OneMemorySince (Placed address word) ds = ⊥
 OneMemorySince (Ran call answer) ds = ⊥
 
