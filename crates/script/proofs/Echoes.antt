@@ -1,9 +1,9 @@
 -- Listings are lines, and accepted records are echoed.
-use Rattle.std.proofs.Common.{◌≡◌, ℕ, ◌+◌, ◌-◌, ◌*◌, ◌<◌, ◌≤◌, Bool, true, false, cond, List, [], ◌∷◌, ◌++◌, length, get_or, Some, None, Option, sym, subst, refl, ap, ◌∙◌, arith, rules}
+use Rattle.std.proofs.Common.{◌≡◌, ℕ, ◌-◌, ◌*◌, ◌<◌, ◌≤◌, Bool, true, false, cond, List, [], ◌∷◌, ◌++◌, length, get_or, Some, None, Option, sym, subst, refl, ap, ◌∙◌, arith, rules}
 use Rattle.std.proofs.lemmas.List.FromFn.{length-map-range_with_len}
 use Rattle.std.proofs.lemmas.List.{length-append, append_assoc, same_lists, places}
 use Rattle.std.proofs.lemmas.Bool.Decides.{nat_tests}
-use Rattle.std.specs.List.{between}
+use Rattle.std.specs.List.{between, flat_map}
 use Rattle.std.specs.Option.{option_and_then}
 use Rattle.std.proofs.lemmas.Option.{option_and_then_some, same_Some}
 use Rattle.wire.specs.Questions.{first_no}
@@ -18,7 +18,7 @@ use Rattle.script.specs.Digits.{digits, numeral}
 use Rattle.script.specs.Laws.{echo_letter, Echoed, WholeLines}
 use Rattle.script.specs.Lines.{numbers_of, line_of, text}
 use Rattle.script.specs.Letters.{letter_a, letter_o}
-use Rattle.script.specs.Plays.{Bench, no_kit, loading, running, Done, ran, delivered, accepted, decided, record_questions, carried_out, outcome, line, after, ends, answers}
+use Rattle.script.specs.Plays.{Bench, no_kit, loading, running, Done, ran, delivered, accepted, decided, record_questions, carried_out, outcome, line, after, ends, Outcome, outcomes}
 use Rattle.script.specs.Records.{record_at, record_count, records, form, framed, numbers_in, call_of, link_number}
 use Rattle.script.specs.declared.answer.Answer.{Answer}
 use Rattle.script.specs.declared.answer.Answer.TheVariants.{Made, Placed, Ran}
@@ -34,22 +34,21 @@ line_long : (l : Line) → length (text l) ≡ 16
 unfolding text
 line_long l = refl
 
--- one line, and those behind it unless the listing ends
-one_more : (l : Line) (b : Bool) (rest : List ℕ) (m n : ℕ) → length rest ≡ 16 * m → m ≤ n → (k : ℕ) × (length (text l ++ cond b [] rest) ≡ 16 * k) × (k ≤ n + 1)
-one_more l true rest m n e h = (1, length-append (text l) [] ∙ omega (arith, line_long l), omega arith)
-one_more l false rest m n e h = (m + 1, length-append (text l) rest ∙ omega (arith, line_long l), omega arith)
+lines_long : (os : List Outcome) → length (flat_map (λ o. text (line o)) os) ≡ 16 * length os
+lines_long [] = refl
+lines_long (o ∷ os) = length-append (text (line o)) (flat_map (λ o. text (line o)) os) ∙ omega (arith, line_long (line o), lines_long os)
 
-lines_of : (s : Bench) (rs : List (List ℕ)) → (k : ℕ) × (length (answers s rs) ≡ 16 * k) × (k ≤ length rs)
-lines_of s [] = (0, refl, omega arith)
-lines_of s (r ∷ rs) =
-    let more = lines_of (after s (outcome s r)) rs in
-    let all = one_more (line (outcome s r)) (ends (outcome s r) r) (answers (after s (outcome s r)) rs) more.0 (length rs) more.1 more.2 in
-    (all.0, all.1, omega (arith, all.2))
+few : (s : Bench) (rs : List (List ℕ)) → length (outcomes s rs) ≤ length rs
+few s [] = omega arith
+few s (r ∷ rs) = by (ends (outcome s r) r) (few (after s (outcome s r)) rs)
+  where
+    by : (b : Bool) → length (outcomes (after s (outcome s r)) rs) ≤ length rs → length (outcome s r ∷ cond b [] (outcomes (after s (outcome s r)) rs)) ≤ length (r ∷ rs)
+    by true h = omega arith
+    by false h = omega (arith, h)
 
 pub whole_lines : WholeLines
 whole_lines script =
-    let lines = lines_of no_kit (records script) in
-    (lines.0, lines.1, omega (arith, lines.2, length-map-range_with_len (record_at script) 0 (record_count script - 0)))
+    (lines_long (outcomes no_kit (records script)), omega (arith, few no_kit (records script), length-map-range_with_len (record_at script) 0 (record_count script - 0)))
 
 -- what an accepted record was
 was_done : (q : Option ℕ) (o : Option Done) (done : Done) → decided q o ≡ accepted done → o ≡ Some done

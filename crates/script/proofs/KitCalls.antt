@@ -1,7 +1,7 @@
 -- A call on the code's running kit, over the link of a script, is what the bench says.
 use Rattle.std.proofs.Common.{◌≡◌, ℕ, List, [], ◌∷◌, ◌++◌, length, Ok, Option, Result, refl, ap, ◌∙◌, subst, inl, inr}
 use Rattle.wire.specs.Bags.{bag}
-use Rattle.wire.specs.Links.{largest_limit, Chosen, InTurn}
+use Rattle.wire.specs.Links.{largest_limit, Chosen}
 use Rattle.wire.specs.Questions.{first_no, refusal}
 use Rattle.wire.specs.declared.fault.Fault.{Fault}
 use Rattle.wire.specs.declared.message.Message.{Message}

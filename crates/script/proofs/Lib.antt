@@ -1,5 +1,6 @@
 pub mod Numerals
 pub mod Scripts
+mod Walks
 pub mod Listings
 mod Beginnings
 mod Rows

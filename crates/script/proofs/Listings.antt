@@ -4,6 +4,7 @@ use Rattle.std.specs.List.{starts_with}
 use Rattle.std.specs.Option.{option_and_then}
 use Rattle.std.proofs.lemmas.Bool.Decides.{nat_tests}
 use Rattle.wire.specs.Questions.{first_no}
+use Rattle.script.proofs.Walks.{walk_more}
 use Rattle.script.specs.Lines.{line_of, refused_line, text}
 use Rattle.script.specs.Plays.{Bench, Done, Outcome, accepted, refused, decided, outcome, line, after, ends, answers, record_questions, carried_out}
 use Rattle.script.specs.Records.{form}
@@ -18,7 +19,7 @@ names_kit (c ∷ cs) b e = grind (arith, nat_tests)
 -- the answers to some records are to complete the listing; then the first of them is answered
 module _ (s : Bench) (r : List ℕ) (rs some : List (List ℕ)) (parts : some ≡ r ∷ rs) (out all : List ℕ) (p : out ++ answers s some ≡ all) where
   by_outcome : (o : Outcome) (new : List ℕ) (l : Line) → outcome s r ≡ o → l ≡ line o → new ≡ out ++ text l → new ++ cond (ends o r) [] (answers (after s o) rs) ≡ all
-  by_outcome o new l e m n = rw (n, m, append_assoc, ← e) (ap (λ (xs : List (List ℕ)). out ++ answers s xs) (sym parts) ∙ p)
+  by_outcome o new l e m n = rw (n, m, append_assoc, ← e) (ap (λ (xs : List ℕ). out ++ xs) (sym (walk_more (λ (o : Outcome). text (line o)) s r rs)) ∙ ap (λ (xs : List (List ℕ)). out ++ answers s xs) (sym parts) ∙ p)
 
   -- it is carried out: the listing goes on
   pub goes_on : (done : Done) (new : List ℕ) (l : Line) → None ≡ first_no (record_questions s (form r)) → option_and_then (carried_out s) (form r) ≡ Some done → l ≡ line_of done.answer → new ≡ out ++ text l → new ++ answers done.bench rs ≡ all

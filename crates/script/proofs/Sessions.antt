@@ -25,11 +25,12 @@ use Rattle.memory.proofs.OneMemory.{is_one_memory, is_willing, never_refuses}
 use Rattle.kit.specs.KitQuestions.{place_questions}
 use Rattle.script.proofs.Beginnings.{made_may, placed_may}
 use Rattle.script.proofs.Runs.{passed_after}
+use Rattle.script.proofs.Walks.{walk_more}
 use Rattle.script.specs.Benches.{over_link}
 use Rattle.script.specs.Choosing.{taken, place_of}
 use Rattle.script.specs.Plays.{Bench, no_kit, loading, running, Done, Outcome, accepted, refused, decided, outcome, after, ends, carried_out, record_questions, access_questions, run_questions, ran, delivered}
 use Rattle.script.specs.Records.{form, records}
-use Rattle.script.specs.Sessions.{done_in, done_by, placed_by, words_after, event_of, history_of, OneMemorySince, KeepsOneMemory, SessionKeepsOneMemory}
+use Rattle.script.specs.Sessions.{done_in, done_by, placed_by, words_after, event_of, history_of, OneMemorySince, KeepsOneMemory, DoneIsOneMemory, SessionKeepsOneMemory}
 use Rattle.script.specs.declared.answer.Answer.{Answer}
 use Rattle.script.specs.declared.answer.Answer.TheVariants.{Made, Placed, Ran}
 use Rattle.script.specs.declared.call.Call.{Call}
@@ -202,16 +203,23 @@ module _ (plan : KitPlan) where
 
   all_since : (rs : List (List ℕ)) → After rs
   all_since [] s ds since = (s, subst (Since s) (sym (append-nil ds)) since)
-  all_since (r ∷ rs) s ds since = one_since s r rs ds since (all_since rs) (outcome s r) refl
+  all_since (r ∷ rs) s ds since =
+      let all = one_since s r rs ds since (all_since rs) (outcome s r) refl in
+      (all.0, subst (λ xs. Since all.0 (ds ++ xs)) (sym (walk_more done_in s r rs)) all.1)
 
   -- what was done since is one memory
+  keeps : (ds : List Done) → MayBegin plan.boards plan.pages largest_limit (words_after [] ds) → (s : State) → Reached (first (words_after [] ds)) (history_of ds) s → KeepsOneMemory plan (words_after [] ds) (history_of ds)
+  keeps ds may s reached = record {
+    state = s;
+    reached = reached;
+    one_memory = is_one_memory plan.boards plan.pages largest_limit (words_after [] ds) may (history_of ds) s reached;
+    willing = is_willing plan.boards plan.pages largest_limit (words_after [] ds) may (history_of ds) s reached;
+  }
+
   one_memory_since : (s : Bench) (ds : List Done) → Since s ds → OneMemorySince (Made plan) ds
   one_memory_since no_kit ds since = absurd since.tells
-  one_memory_since (loading link k) ds since =
-      let reached = started_since link k ds since in
-      (over_link k [], reached, is_one_memory plan.boards plan.pages largest_limit (words_after [] ds) since.may (history_of ds) (over_link k []) reached, is_willing plan.boards plan.pages largest_limit (words_after [] ds) since.may (history_of ds) (over_link k []) reached)
-  one_memory_since (running link k row) ds since =
-      (over_link k row, since.tells, is_one_memory plan.boards plan.pages largest_limit (words_after [] ds) since.may (history_of ds) (over_link k row) since.tells, is_willing plan.boards plan.pages largest_limit (words_after [] ds) since.may (history_of ds) (over_link k row) since.tells)
+  one_memory_since (loading link k) ds since = keeps ds since.may (over_link k []) (started_since link k ds since)
+  one_memory_since (running link k row) ds since = keeps ds since.may (over_link k row) since.tells
 
 -- Before a kit is made nothing is carried out but the record that makes it.
 made_first : (rs : List (List ℕ)) (call : Call) (done : Done) → first_no (record_questions no_kit (Some call)) ≡ None → carried_out no_kit call ≡ Some done → OneMemorySince done.answer (done_by done.bench rs)
@@ -222,17 +230,17 @@ made_first rs (MakeKit plan) done passed e =
 made_first rs (Place address word) done passed e = cc
 made_first rs (Run call) done passed e = cc
 
-first_record : (r : List ℕ) (rs : List (List ℕ)) → KeepsOneMemory (done_by no_kit rs) → (o : Outcome) → outcome no_kit r ≡ o → KeepsOneMemory (done_in o ++ cond (ends o r) [] (done_by (after no_kit o) rs))
+first_record : (r : List ℕ) (rs : List (List ℕ)) → DoneIsOneMemory (done_by no_kit rs) → (o : Outcome) → outcome no_kit r ≡ o → DoneIsOneMemory (done_in o ++ cond (ends o r) [] (done_by (after no_kit o) rs))
 first_record r rs more (accepted done) q = let was = was_carried no_kit (form r) done q in made_first rs was.0 done was.2 was.3
 first_record r rs more (refused n) q = ended (ends (refused n) r)
   where
-    ended : (b : Bool) → KeepsOneMemory (cond b [] (done_by no_kit rs))
+    ended : (b : Bool) → DoneIsOneMemory (cond b [] (done_by no_kit rs))
     ended true = tt
     ended false = more
 
-from_start : (rs : List (List ℕ)) → KeepsOneMemory (done_by no_kit rs)
+from_start : (rs : List (List ℕ)) → DoneIsOneMemory (done_by no_kit rs)
 from_start [] = tt
-from_start (r ∷ rs) = first_record r rs (from_start rs) (outcome no_kit r) refl
+from_start (r ∷ rs) = subst DoneIsOneMemory (sym (walk_more done_in no_kit r rs)) (first_record r rs (from_start rs) (outcome no_kit r) refl)
 
 pub session_keeps : (script : List ℕ) → SessionKeepsOneMemory script
 session_keeps script = from_start (records script)

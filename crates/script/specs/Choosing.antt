@@ -19,6 +19,6 @@ abbrev pub taken_at : ℕ → List Message → Option Taken
 taken_at place [] = None
 taken_at place (m ∷ ms) = Some (record { message = get_or (m ∷ ms) place m; rest = remove (m ∷ ms) place })
 
--- with this pick
+-- the message that this link hands over with this pick
 abbrev pub taken : LinkKind → ℕ → List Message → Option Taken
 taken link pick row = taken_at (place_of link pick (length row)) row

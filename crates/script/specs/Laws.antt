@@ -8,8 +8,8 @@ use Rattle.script.specs.declared.answer.Answer.TheVariants.{Made, Placed, Ran}
 use Rattle.script.specs.Digits.{digits, numeral}
 use Rattle.script.specs.Lines.{line_of, text}
 use Rattle.script.specs.Letters.{letter_a, letter_o}
-use Rattle.script.specs.Plays.{Bench, Done, outcome, accepted, listing}
-use Rattle.script.specs.Records.{record_count}
+use Rattle.script.specs.Plays.{Bench, Done, outcome, accepted, listing, no_kit, outcomes}
+use Rattle.script.specs.Records.{record_count, records}
 
 -- reading and writing numbers undo each other
 abbrev pub ReadBack : Type 0
@@ -31,6 +31,6 @@ echo_letter (Ran call Quiet) = None
 abbrev pub Echoed : Type 0
 Echoed = (s : Bench) (r : List ℕ) (done : Done) (letter : ℕ) → outcome s r ≡ accepted done → echo_letter done.answer ≡ Some letter → text (line_of done.answer) ≡ letter ∷ between 1 14 r ++ 48 ∷ 10 ∷ []
 
--- a listing is whole lines of sixteen characters, at most one for each record
+-- a listing is whole lines of sixteen characters, one for each outcome, and so at most one for each record
 abbrev pub WholeLines : Type 0
-WholeLines = (script : List ℕ) → (k : ℕ) × (length (listing script) ≡ 16 * k) × (k ≤ record_count script)
+WholeLines = (script : List ℕ) → (length (listing script) ≡ 16 * length (outcomes no_kit (records script))) × (length (outcomes no_kit (records script)) ≤ record_count script)

@@ -1,5 +1,6 @@
 -- What the bench answers to a script.
 use Rattle.std.specs.Prelude.{ℕ, Bool, true, false, cond, List, [], ◌∷◌, ◌++◌, is_some, Some, None, Option, ◌==◌, nat_lt, slice_index}
+use Rattle.std.specs.List.{flat_map}
 use Rattle.wire.specs.Links.{largest_limit}
 use Rattle.wire.specs.Questions.{first_no}
 use Rattle.wire.specs.declared.message.Message.{Message}
@@ -130,10 +131,14 @@ abbrev pub ends : Outcome → List ℕ → Bool
 ends (accepted done) r = false
 ends (refused n) r = slice_index r 0 == letter_k
 
--- the answers to records, one after another
+-- the outcomes of records, one after another
+abbrev pub outcomes : Bench → List (List ℕ) → List Outcome
+outcomes s [] = []
+outcomes s (r ∷ rs) = outcome s r ∷ cond (ends (outcome s r) r) [] (outcomes (after s (outcome s r)) rs)
+
+-- a line for each
 abbrev pub answers : Bench → List (List ℕ) → List ℕ
-answers s [] = []
-answers s (r ∷ rs) = text (line (outcome s r)) ++ cond (ends (outcome s r) r) [] (answers (after s (outcome s r)) rs)
+answers s rs = flat_map (λ o. text (line o)) (outcomes s rs)
 
 abbrev pub listing : List ℕ → List ℕ
 listing script = answers no_kit (records script)

@@ -1,6 +1,7 @@
 -- The accesses in a script are one memory.
-use Rattle.std.specs.Prelude.{ℕ, cond, List, [], ◌∷◌, ◌++◌, Ok}
+use Rattle.std.specs.Prelude.{ℕ, List, [], ◌∷◌, ◌++◌, Ok}
 use Rattle.wire.specs.declared.message.Message.{Message}
+use Rattle.std.specs.List.{flat_map}
 use Rattle.memory.specs.Histories.{History}
 use Rattle.memory.specs.OneMemory.{OneMemory}
 use Rattle.memory.specs.Placements.{array}
@@ -9,19 +10,19 @@ use Rattle.memory.specs.Willing.{Willing}
 use Rattle.memory.specs.Calls.{Running}
 use Rattle.memory.specs.Reached.{begun, Reached}
 use Rattle.wire.specs.Links.{largest_limit}
-use Rattle.script.specs.Plays.{Bench, no_kit, Done, Outcome, accepted, refused, outcome, after, ends}
+use Rattle.script.specs.Plays.{Bench, no_kit, Done, Outcome, accepted, refused, outcomes}
 use Rattle.script.specs.Records.{records}
 use Rattle.script.specs.declared.answer.Answer.{Answer}
+use Rattle.script.specs.declared.call.KitPlan.{KitPlan}
 use Rattle.script.specs.declared.answer.Answer.TheVariants.{Made, Placed, Ran}
 
 abbrev pub done_in : Outcome → List Done
 done_in (accepted done) = done ∷ []
 done_in (refused n) = []
 
--- what records do that are carried out, one after another, as in the listing
+-- what records do that are carried out, one after another
 abbrev pub done_by : Bench → List (List ℕ) → List Done
-done_by s [] = []
-done_by s (r ∷ rs) = done_in (outcome s r) ++ cond (ends (outcome s r) r) [] (done_by (after s (outcome s r)) rs)
+done_by s rs = flat_map done_in (outcomes s rs)
 
 -- the word that an answer says was placed, before those placed earlier
 abbrev pub placed_by : Answer → List Placement → List Placement
@@ -44,15 +45,22 @@ abbrev pub history_of : List Done → History
 history_of [] = []
 history_of (d ∷ ds) = event_of d.answer d.posted ++ history_of ds
 
--- what was done first made a kit, and all that it answered since is one memory, and that of a willing kit
+-- a kit of this plan, started with these words, can have this history, which is one memory and that of a willing kit
+pub record KeepsOneMemory (plan : KitPlan) (words : List Placement) (history : History) : Type 0 where
+  pub state : Running
+  pub reached : Reached (begun plan.boards plan.pages largest_limit words) history state
+  pub one_memory : OneMemory plan.boards (array words) history
+  pub willing : Willing plan.boards plan.pages (array words) history
+
+-- What was done first made a kit, and with all that was done since it keeps one memory. Refused calls are not among it: their refusals are in the listing.
 abbrev pub OneMemorySince : Answer → List Done → Type 0
-OneMemorySince (Made plan) ds = (s : Running) × Reached (begun plan.boards plan.pages largest_limit (words_after [] ds)) (history_of ds) s × OneMemory plan.boards (array (words_after [] ds)) (history_of ds) × Willing plan.boards plan.pages (array (words_after [] ds)) (history_of ds)
+OneMemorySince (Made plan) ds = KeepsOneMemory plan (words_after [] ds) (history_of ds)
 OneMemorySince (Placed address word) ds = ⊥
 OneMemorySince (Ran call answer) ds = ⊥
 
-abbrev pub KeepsOneMemory : List Done → Type 0
-KeepsOneMemory [] = Unit {0}
-KeepsOneMemory (d ∷ ds) = OneMemorySince d.answer ds
+abbrev pub DoneIsOneMemory : List Done → Type 0
+DoneIsOneMemory [] = Unit {0}
+DoneIsOneMemory (d ∷ ds) = OneMemorySince d.answer ds
 
 abbrev pub SessionKeepsOneMemory : List ℕ → Type 0
-SessionKeepsOneMemory script = KeepsOneMemory (done_by no_kit (records script))
+SessionKeepsOneMemory script = DoneIsOneMemory (done_by no_kit (records script))

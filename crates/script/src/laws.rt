@@ -7,8 +7,7 @@ pub fn numbers_undo()
     ensures written { WrittenBack }
 {}
 
-/// An accepted K or P is echoed, and a listing is whole lines, at most one for each record.
-#[tactic(auto, using(crate::proofs::Echoes::echoed, crate::proofs::Echoes::whole_lines))]
+/// An accepted K or P is echoed, and so is an access that opens; a listing is whole lines, at most one for each record.
 pub fn listings_are_lines()
     ensures echoed { Echoed }
     ensures lines { WholeLines }
