@@ -37,6 +37,12 @@ counted_on n (Ok (Arrived arrival)) = omega arith
 counted_on n (Ok Quiet) = omega arith
 counted_on n (Err fault) = omega arith
 
+not_quiet : (answer : Arrival) → ◌≡◌ {A = Result Answer Fault} (Ok (Arrived answer)) (Ok Quiet) → ⊥
+not_quiet answer e = cc
+
+no_answer : (fault : Fault) → ◌≡◌ {A = Result Answer Fault} (Err fault) (Ok Quiet) → ⊥
+no_answer fault e = cc
+
 module _ {L : Type 0} (limit : L → ℕ) (waiting : L → Bag Message) where
   -- what a history leads to is kept
   pub kept_of : (n p first_limit : ℕ) (placements : List Placement) → MayBegin n p first_limit placements → (history : History) (r : Running L) → LeadsTo limit waiting n p first_limit placements history r →
@@ -75,7 +81,7 @@ module _ {L : Type 0} (limit : L → ℕ) (waiting : L → Bag Message) where
     loaded board address r t posts answer passed steps sent in_turn opened =
         let o = load_at (board_at (kit_of r.cluster) board) address in
         let does = access_answers board address o r t posts answer passed steps sent in
-        record { posted = o.posts; does = does; link = subst (λ x. InTurn joins x r.link t.link) steps.posted in_turn; opened = opened; kept = keeps (record { call = Load board address; answer = Ok (Accessed answer); posted = o.posts }) r t does opened }
+        record { posted = o.posts; does = does; link = subst (λ x. InTurn joins x r.link t.link) steps.posted in_turn; opened = opened; unchanged = tt; kept = keeps (record { call = Load board address; answer = Ok (Accessed answer); posted = o.posts }) r t does opened }
 
     pub stored : (board address word : ℕ) (r t : Running L) (posts : List Message) (answer : AccessAnswer) →
         first_no (access_questions (running_of limit waiting r) board address) ≡ None → Steps board (store_at (board_at (kit_of r.cluster) board) address word) (kit_of r.cluster) (kit_of t.cluster) posts answer →
@@ -84,26 +90,28 @@ module _ {L : Type 0} (limit : L → ℕ) (waiting : L → Bag Message) where
     stored board address word r t posts answer passed steps sent in_turn opened =
         let o = store_at (board_at (kit_of r.cluster) board) address word in
         let does = access_answers board address o r t posts answer passed steps sent in
-        record { posted = o.posts; does = does; link = subst (λ x. InTurn joins x r.link t.link) steps.posted in_turn; opened = opened; kept = keeps (record { call = Store board address word; answer = Ok (Accessed answer); posted = o.posts }) r t does opened }
+        record { posted = o.posts; does = does; link = subst (λ x. InTurn joins x r.link t.link) steps.posted in_turn; opened = opened; unchanged = tt; kept = keeps (record { call = Store board address word; answer = Ok (Accessed answer); posted = o.posts }) r t does opened }
 
     -- the fault of a refused access rises
     module _ (board address : ℕ) (asked : Result (Unit {0}) Fault) (answer : Result AccessAnswer Fault) (fault : Fault) (r t : Running L)
         (asks : refusal asked ≡ first_no (access_questions (running_of limit waiting r) board address)) (was : asked ≡ Err fault) (rises : answer ≡ Err fault)
-        (same : running_of limit waiting t ≡ running_of limit waiting r) (link : t.link ≡ r.link) (opened : t.opened ≡ r.opened) where
+        (same : t ≡ r) where
       refused_asks : refusal {T = Answer} (Err fault) ≡ first_no (access_questions (running_of limit waiting r) board address)
       refused_asks = subst (λ x. refusal x ≡ first_no (access_questions (running_of limit waiting r) board address)) was asks
 
       pub not_loaded : GoesOn limit waiting joins chooses (Load board address) (accessed answer) r t
       not_loaded =
-          let does = access_refused board address (load_at (board_at (kit_of r.cluster) board) address) r t fault refused_asks same in
+          let does = access_refused board address (load_at (board_at (kit_of r.cluster) board) address) r t fault refused_asks (ap (running_of limit waiting) same) in
+          let opened = ap (λ x. x.opened) same in
           subst (λ x. GoesOn limit waiting joins chooses (Load board address) (accessed x) r t) (sym rises)
-          (record { posted = []; does = does; link = link; opened = opened; kept = keeps (record { call = Load board address; answer = Err fault; posted = [] }) r t does opened })
+          (record { posted = []; does = does; link = ap (λ x. x.link) same; opened = opened; unchanged = same; kept = keeps (record { call = Load board address; answer = Err fault; posted = [] }) r t does opened })
 
       pub not_stored : (word : ℕ) → GoesOn limit waiting joins chooses (Store board address word) (accessed answer) r t
       not_stored word =
-          let does = access_refused board address (store_at (board_at (kit_of r.cluster) board) address word) r t fault refused_asks same in
+          let does = access_refused board address (store_at (board_at (kit_of r.cluster) board) address word) r t fault refused_asks (ap (running_of limit waiting) same) in
+          let opened = ap (λ x. x.opened) same in
           subst (λ x. GoesOn limit waiting joins chooses (Store board address word) (accessed x) r t) (sym rises)
-          (record { posted = []; does = does; link = link; opened = opened; kept = keeps (record { call = Store board address word; answer = Err fault; posted = [] }) r t does opened })
+          (record { posted = []; does = does; link = ap (λ x. x.link) same; opened = opened; unchanged = same; kept = keeps (record { call = Store board address word; answer = Err fault; posted = [] }) r t does opened })
 
     -- A delivery takes the message m, and leaves the link u.
     module _ (pick : ℕ) (r t : Running L) (m : Message) (u : L) (taken : Taken limit waiting r.link (Some m) u) (chosen : chooses r.link pick (Some m) u) (opened : t.opened ≡ r.opened) where
@@ -133,6 +141,7 @@ module _ {L : Type 0} (limit : L → ℕ) (waiting : L → Bag Message) where
             does = does;
             link = (u, chosen, subst (λ x. InTurn joins x u t.link) steps.posted in_turn);
             opened = opened;
+            unchanged = λ e. absurd (not_quiet answer e);
             kept = keeps (record { call = Deliver pick; answer = Ok (Arrived answer); posted = o.posts }) r t does opened;
           }
 
@@ -145,14 +154,15 @@ module _ {L : Type 0} (limit : L → ℕ) (waiting : L → Bag Message) where
           let asked_so = subst (λ x. refusal x ≡ first_no (arrival_questions (over r.cluster (limit u) (waiting u)) m)) was asks in
           let does = inr (delivers (Err fault) [] (asked_so, (refl, rw (kit, link) refl))) in
           subst (λ x. GoesOn limit waiting joins chooses (Deliver pick) (delivered x) r t) (sym rises)
-          (record { posted = []; does = does; link = (u, chosen, link); opened = opened; kept = keeps (record { call = Deliver pick; answer = Err fault; posted = [] }) r t does opened })
+          (record { posted = []; does = does; link = (u, chosen, link); opened = opened; unchanged = λ e. absurd (no_answer fault e); kept = keeps (record { call = Deliver pick; answer = Err fault; posted = [] }) r t does opened })
 
     -- nothing waits
-    pub quiet : (pick : ℕ) (r t : Running L) (u : L) → Taken limit waiting r.link None u → chooses r.link pick None u → t.link ≡ u → kit_of t.cluster ≡ kit_of r.cluster → t.opened ≡ r.opened →
+    pub quiet : (pick : ℕ) (r t : Running L) → waiting r.link ≡ empty → chooses r.link pick None t.link → t ≡ r →
         GoesOn limit waiting joins chooses (Deliver pick) (Ok Quiet) r t
-    quiet pick r t u taken chosen link kit opened =
-        let does = inl (taken.0.0, refl, refl, rw (kit, link, taken.1) refl) in
-        record { posted = []; does = does; link = subst (λ x. chooses r.link pick None x) (sym link) chosen; opened = opened; kept = keeps (record { call = Deliver pick; answer = Ok Quiet; posted = [] }) r t does opened }
+    quiet pick r t none chosen same =
+        let does = inl (none, refl, refl, ap (running_of limit waiting) same) in
+        let opened = ap (λ x. x.opened) same in
+        record { posted = []; does = does; link = chosen; opened = opened; unchanged = λ e. same; kept = keeps (record { call = Deliver pick; answer = Ok Quiet; posted = [] }) r t does opened }
 
   -- a kit just started
   pub begins : (n p first_limit : ℕ) (placements : List Placement) (r : Running L) → kit_of r.cluster ≡ after_placing n p placements → limit r.link ≡ first_limit → waiting r.link ≡ empty → r.opened ≡ 0 →

@@ -23,7 +23,7 @@ use Rattle.kit.specs.OpenedCount.{openings, counted, opened_after}
 use Rattle.kit.specs.declared.running.Running.{Running}
 
 -- a load or a store that is refused changes nothing, and no more does a quiet delivery
-abbrev pub NothingChanges : {X : Type 0} → Call → Result Answer Fault → X → X → Type 0
+abbrev pub NothingChanges : {K : Type 0} → Call → Result Answer Fault → K → K → Type 0
 NothingChanges (Load board address) answer before after = OnErr answer (after ≡ before)
 NothingChanges (Store board address word) answer before after = OnErr answer (after ≡ before)
 NothingChanges (Deliver pick) answer before after = answer ≡ Ok Quiet → after ≡ before
@@ -59,6 +59,7 @@ module _ {L : Type 0} (limit : L → ℕ) (waiting : L → Bag Message) (joins :
     pub does : DoesCall call (running_of limit waiting r) answer posted (running_of limit waiting t)
     pub link : LinkDoes call (running_of limit waiting r) answer posted (running_of limit waiting t) does r.link t.link
     pub opened : t.opened ≡ opened_after r.opened answer
+    pub unchanged : NothingChanges call answer r t
     -- every history that led to r leads to t with this call, and is one memory
     pub kept : (n p first_limit : ℕ) (placements : List Placement) → MayBegin n p first_limit placements → (history : History) → LeadsTo limit waiting n p first_limit placements history r →
         Kept limit waiting n p first_limit placements (history ++ record { call = call; answer = answer; posted = posted } ∷ []) t

@@ -24,7 +24,7 @@ impl<L: Link> Running<L> {
     ghost use Rattle.memory.specs.declared.call.Call.TheVariants.{Load, Store, Deliver};
     ghost use Rattle.kit.specs.KitAnswers.{accessed, delivered};
     ghost use Rattle.kit.specs.OpenedCount.{opened_after};
-    ghost use Rattle.kit.specs.Runs.{GoesOn, NothingChanges};
+    ghost use Rattle.kit.specs.Runs.{GoesOn};
 
     /// A kit just started.
     pub(crate) fn new(cluster: Cluster, link: L) -> Running<L>
@@ -42,8 +42,7 @@ impl<L: Link> Running<L> {
 
     /// A board loads the word at an address, or opens the load.
     pub fn load(&mut self, board: u8, address: u32) -> Result<AccessAnswer, Fault>
-        ensures goes_on { GoesOn L.Link.limit L.waiting L.Choice.joins L.Choice.chooses (Load board address) (accessed result) self.old self.new }
-        ensures unchanged { NothingChanges (Load board address) (accessed result) self.old self.new }
+        ensures { GoesOn L.Link.limit L.waiting L.Choice.joins L.Choice.chooses (Load board address) (accessed result) self.old self.new }
     {
         self.cluster.ask_access(board, address, &self.link)?;
         let mut out = Outbox::new();
@@ -55,8 +54,7 @@ impl<L: Link> Running<L> {
 
     /// A board stores a word at an address, or opens the store.
     pub fn store(&mut self, board: u8, address: u32, word: u32) -> Result<AccessAnswer, Fault>
-        ensures goes_on { GoesOn L.Link.limit L.waiting L.Choice.joins L.Choice.chooses (Store board address word) (accessed result) self.old self.new }
-        ensures unchanged { NothingChanges (Store board address word) (accessed result) self.old self.new }
+        ensures { GoesOn L.Link.limit L.waiting L.Choice.joins L.Choice.chooses (Store board address word) (accessed result) self.old self.new }
     {
         self.cluster.ask_access(board, address, &self.link)?;
         let mut out = Outbox::new();
@@ -68,8 +66,7 @@ impl<L: Link> Running<L> {
 
     /// One of the messages that wait, of the link's choice, arrives at its board. Where none waits the delivery is quiet, and answers `None`.
     pub fn deliver(&mut self, pick: u16) -> Result<Option<Arrival>, Fault>
-        ensures goes_on { GoesOn L.Link.limit L.waiting L.Choice.joins L.Choice.chooses (Deliver pick) (delivered result) self.old self.new }
-        ensures unchanged { NothingChanges (Deliver pick) (delivered result) self.old self.new }
+        ensures { GoesOn L.Link.limit L.waiting L.Choice.joins L.Choice.chooses (Deliver pick) (delivered result) self.old self.new }
     {
         let Some(message) = self.link.take(pick) else {
             return Ok(None);
@@ -83,8 +80,7 @@ impl<L: Link> Running<L> {
 
     /// Carries out a call.
     pub fn call(&mut self, call: Call) -> Result<Answer, Fault>
-        ensures goes_on { GoesOn L.Link.limit L.waiting L.Choice.joins L.Choice.chooses call result self.old self.new }
-        ensures unchanged { NothingChanges call result self.old self.new }
+        ensures { GoesOn L.Link.limit L.waiting L.Choice.joins L.Choice.chooses call result self.old self.new }
     {
         match call {
             Call::Load { board, address } => self.load(board, address).map(Answer::Accessed),

@@ -76,13 +76,13 @@ abbrev pub passed_on : Ledger → ℕ → ℕ
 passed_on l board = l.requests board - 1
 
 -- how many messages a call takes off the link
-abbrev pub taken : Call → Result Answer Fault → ℕ
-taken (Load board address) answer = 0
-taken (Store board address word) answer = 0
-taken (Deliver pick) (Ok (Accessed answer)) = 0
-taken (Deliver pick) (Ok (Arrived arrival)) = 1
-taken (Deliver pick) (Ok Quiet) = 0
-taken (Deliver pick) (Err fault) = 1
+abbrev pub taken_off : Call → Result Answer Fault → ℕ
+taken_off (Load board address) answer = 0
+taken_off (Store board address word) answer = 0
+taken_off (Deliver pick) (Ok (Accessed answer)) = 0
+taken_off (Deliver pick) (Ok (Arrived arrival)) = 1
+taken_off (Deliver pick) (Ok Quiet) = 0
+taken_off (Deliver pick) (Err fault) = 1
 
 -- the ledger with one more event entered
 abbrev pub entered : Ledger → Event → Ledger
@@ -90,7 +90,7 @@ entered l e = record {
   array = array_after l (change e.call e.answer);
   pending = pending_after l (change e.call e.answer);
   requests = λ board. requests_before l (change e.call e.answer) board + requests_of board e.posted;
-  waiting = l.waiting - taken e.call e.answer + length e.posted;
+  waiting = l.waiting - taken_off e.call e.answer + length e.posted;
 }
 
 -- the ledger of a kit just started

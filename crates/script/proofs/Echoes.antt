@@ -18,7 +18,7 @@ use Rattle.script.specs.Digits.{digits, numeral}
 use Rattle.script.specs.Laws.{echo_letter, Echoed, WholeLines}
 use Rattle.script.specs.Lines.{numbers_of, line_of, text}
 use Rattle.script.specs.Letters.{letter_a, letter_o}
-use Rattle.script.specs.Plays.{Bench, no_kit, loading, running, Done, ran, delivered, accepted, decided, record_questions, carried_out, outcome, line, after, ends, Outcome, outcomes}
+use Rattle.script.specs.Plays.{Bench, no_kit, loading, running, Done, ran, after_delivery, accepted, decided, record_questions, carried_out, outcome, line, after, ends, Outcome, outcomes}
 use Rattle.script.specs.Records.{record_at, record_count, records, form, framed, numbers_in, call_of, link_number}
 use Rattle.script.specs.declared.answer.Answer.{Answer}
 use Rattle.script.specs.declared.answer.Answer.TheVariants.{Made, Placed, Ran}
@@ -158,7 +158,7 @@ ran_asks link k row (Load board address) = refl
 ran_asks link k row (Store board address word) = refl
 ran_asks link k row (Deliver pick) = by (taken link pick row)
   where
-    by : (o : Option Taken) → Asks (delivered link k (Deliver pick) o).answer (Run (Deliver pick))
+    by : (o : Option Taken) → Asks (after_delivery link k (Deliver pick) o).answer (Run (Deliver pick))
     by None = refl
     by (Some t) = refl
 

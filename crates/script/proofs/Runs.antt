@@ -20,7 +20,7 @@ use Rattle.script.proofs.Rows.{taken_is}
 use Rattle.script.specs.Benches.{over_link, Came}
 use Rattle.script.specs.Choosing.{taken, place_of}
 use Rattle.script.specs.Plays as plays
-use Rattle.script.specs.Plays.{Done, access_questions, accessed, arrived, delivered, ran, run_questions}
+use Rattle.script.specs.Plays.{Done, access_questions, after_access, after_arrival, after_delivery, ran, run_questions}
 use Rattle.script.specs.declared.answer.Answer.TheVariants.{Ran}
 use Rattle.script.specs.declared.call.LinkKind.{LinkKind}
 
@@ -55,17 +55,17 @@ on_link k limit row = record { kit = k; limit = limit; waiting = bag row }
 module _ (k : Kit) (limit : ℕ) (row : List Message) where
   pub access_says : (link : LinkKind) (call : KitCall) (board address : ℕ) (o : lone.Outcome AccessAnswer) (a : KitAnswer) (posted : List Message) (t : State) (row-after : List Message) →
       Answers (calls.access_questions (on_link k limit row) board address) Accessed board o (on_link k limit row) (Ok a) posted t → row-after ≡ row ++ posted →
-      accessed link k row call board o ≡ record { answer = Ran call a; posted = posted; bench = plays.running link t.kit row-after }
+      after_access link k row call board o ≡ record { answer = Ran call a; posted = posted; bench = plays.running link t.kit row-after }
   access_says link call board address o a posted t row-after does rows = rw (does.1.0, rows, does.1.1, does.1.2) refl
 
   pub arrival_says : (link : LinkKind) (pick : ℕ) (a : KitAnswer) (posted : List Message) (t : State) (d : Delivers (on_link k limit row) (Ok a) posted t) (between row-after : List Message) →
       Chosen (place_of link pick (length row)) (Some d.message) row between → row-after ≡ between ++ posted → Says link k row (Deliver pick) a posted t.kit row-after
   arrival_says link pick a posted t d between row-after chosen rows =
       let which : taken link pick row ≡ Some (record { message = d.message; rest = between }) = taken_is (place_of link pick (length row)) d.message row between chosen in
-      ap (delivered link k (Deliver pick)) which ∙ rw (d.arrives.1.0, rows, d.arrives.1.1, d.arrives.1.2) refl
+      ap (after_delivery link k (Deliver pick)) which ∙ rw (d.arrives.1.0, rows, d.arrives.1.1, d.arrives.1.2) refl
 
   pub quiet_says : (link : LinkKind) (pick : ℕ) (a : KitAnswer) (posted : List Message) (t : State) → IsQuiet (on_link k limit row) (Ok a) posted t → row ≡ [] → Says link k row (Deliver pick) a posted t.kit []
   quiet_says link pick a posted t q none =
       let which : taken link pick row ≡ None = ap (λ x. taken link pick x) none in
       let is : a ≡ Quiet = (let e = q.1 in cc) in
-      ap (delivered link k (Deliver pick)) which ∙ rw (is, q.2, q.3) refl
+      ap (after_delivery link k (Deliver pick)) which ∙ rw (is, q.2, q.3) refl

@@ -28,7 +28,7 @@ use Rattle.script.proofs.Runs.{passed_after}
 use Rattle.script.proofs.Walks.{walk_more}
 use Rattle.script.specs.Benches.{over_link}
 use Rattle.script.specs.Choosing.{taken, place_of}
-use Rattle.script.specs.Plays.{Bench, no_kit, loading, running, Done, Outcome, accepted, refused, decided, outcome, after, ends, carried_out, record_questions, access_questions, run_questions, ran, delivered}
+use Rattle.script.specs.Plays.{Bench, no_kit, loading, running, Done, Outcome, accepted, refused, decided, outcome, after, ends, carried_out, record_questions, access_questions, run_questions, ran, after_delivery}
 use Rattle.script.specs.Records.{form, records}
 use Rattle.script.specs.Sessions.{done_in, done_by, placed_by, words_after, event_of, history_of, OneMemorySince, KeepsOneMemory, DoneIsOneMemory, SessionKeepsOneMemory}
 use Rattle.script.specs.declared.answer.Answer.{Answer}
@@ -75,7 +75,7 @@ module _ (n p : ℕ) (words : List Placement) (may : MayBegin n p largest_limit 
   access_does board address o passed =
       (sym (passed_after (access_questions k board address) (room (over_link k row)) sure.posts ∙ passed), (refl, refl, rw (behind row o.posts) refl))
 
-  delivery_does : (link : LinkKind) (pick : ℕ) → (r : List Message) → r ≡ row → Follows (Deliver pick) (delivered link k (Deliver pick) (taken link pick r))
+  delivery_does : (link : LinkKind) (pick : ℕ) → (r : List Message) → r ≡ row → Follows (Deliver pick) (after_delivery link k (Deliver pick) (taken link pick r))
   delivery_does link pick [] e = record { answer = Quiet; link = link; kit = k; after = []; says = refl; does = inl (ap bag (sym e), refl, refl, rw (sym e) refl) }
   delivery_does link pick (m ∷ ms) e =
       let place = place_of link pick (suc (length ms)) in

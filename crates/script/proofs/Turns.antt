@@ -95,12 +95,12 @@ module _ (before : Bench) (r t : running.Running NamedLink) (call : KitCall) (st
         ready = came_on r t limit came call a g;
       }
 
-  pub not_ran_turns : (fault : Fault) (result : Result Answer Fault) → Runs call (Err fault) r t → NothingChanges call (Err fault) r t → result ≡ Err fault → Turns (Some (Run call)) before result (Running t)
-  not_ran_turns fault result g same rises =
+  pub not_ran_turns : (fault : Fault) (result : Result Answer Fault) → Runs call (Err fault) r t → result ≡ Err fault → Turns (Some (Run call)) before result (Running t)
+  not_ran_turns fault result g rises =
       let limit = stands.ready.0 in
       let came = stands.ready.1 in
       let here = asks r t limit came call (Err fault) g in
-      let stays = still r t call fault here same in
+      let stays = still r t call fault here g.unchanged in
       let kept : Running r ≡ before = elim stands.kept [ inl none ↦ absurd (not_none (number fault) (first_no (run_questions (kit_of r.cluster) call)) here none) | inr e ↦ e ] in
       subst (λ x. Turns (Some (Run call)) before x (Running t)) (sym rises)
       (record { refused = here ∙ sym stands.asked; done = tt; kept = ap (λ x. Running x) stays ∙ kept; ready = subst (λ x. Ready (Running x)) (sym stays) stands.ready })

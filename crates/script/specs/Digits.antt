@@ -1,7 +1,7 @@
 -- Numbers as scripts and listings write them: digits of a base, the most significant first, letters lowercase.
 use Rattle.std.specs.Prelude.{ℕ, zero, suc, ◌+◌, ◌-◌, ◌*◌, ◌/◌, ◌%◌, cond, List, [], ◌∷◌, ◌++◌, Some, None, Option, nat_lt}
 use Rattle.wire.specs.Questions.{inside}
-use Rattle.script.specs.Steps.{◌>>=◌}
+use Rattle.script.specs.Options.{◌>>=◌}
 use Rattle.script.specs.declared.digits.Base.{Base}
 use Rattle.script.specs.declared.digits.Base.TheVariants.{Ten, Sixteen}
 

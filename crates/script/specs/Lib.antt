@@ -1,4 +1,4 @@
-pub mod Steps
+pub mod Options
 pub mod Digits
 pub mod Letters
 pub mod Records

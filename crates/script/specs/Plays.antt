@@ -18,7 +18,7 @@ use Rattle.script.specs.Choosing.{Taken, taken}
 use Rattle.script.specs.Lines.{line_of, refused_line, text}
 use Rattle.script.specs.Records.{records, form}
 use Rattle.script.specs.Letters.{letter_k}
-use Rattle.script.specs.Steps.{◌>>=◌}
+use Rattle.script.specs.Options.{◌>>=◌}
 use Rattle.script.specs.declared.answer.Answer.{Answer}
 use Rattle.script.specs.declared.answer.Answer.TheVariants.{Made, Placed, Ran}
 use Rattle.script.specs.declared.call.Call.{Call}
@@ -41,22 +41,22 @@ pub record Done : Type 0 where
 -- Calls on a running kit.
 
 -- a load or a store at a board has this outcome
-abbrev pub accessed : LinkKind → kits.Kit → List Message → KitCall → ℕ → lone.Outcome AccessAnswer → Done
-accessed link k row call board o = record { answer = Ran call (Accessed o.answer); posted = o.posts; bench = running link (kits.with_board k board o.board) (row ++ o.posts) }
+abbrev pub after_access : LinkKind → kits.Kit → List Message → KitCall → ℕ → lone.Outcome AccessAnswer → Done
+after_access link k row call board o = record { answer = Ran call (Accessed o.answer); posted = o.posts; bench = running link (kits.with_board k board o.board) (row ++ o.posts) }
 
 -- an arrival at a board has this outcome
-abbrev pub arrived : LinkKind → kits.Kit → List Message → KitCall → ℕ → lone.Outcome Arrival → Done
-arrived link k rest call board o = record { answer = Ran call (Arrived o.answer); posted = o.posts; bench = running link (kits.with_board k board o.board) (rest ++ o.posts) }
+abbrev pub after_arrival : LinkKind → kits.Kit → List Message → KitCall → ℕ → lone.Outcome Arrival → Done
+after_arrival link k rest call board o = record { answer = Ran call (Arrived o.answer); posted = o.posts; bench = running link (kits.with_board k board o.board) (rest ++ o.posts) }
 
 -- the message that the link hands over arrives at the board that it is addressed to; where none waits the delivery is quiet
-abbrev pub delivered : LinkKind → kits.Kit → KitCall → Option Taken → Done
-delivered link k call None = record { answer = Ran call Quiet; posted = []; bench = running link k [] }
-delivered link k call (Some t) = arrived link k t.rest call t.message.to (lone.arrive_at (kits.board_at k t.message.to) t.message)
+abbrev pub after_delivery : LinkKind → kits.Kit → KitCall → Option Taken → Done
+after_delivery link k call None = record { answer = Ran call Quiet; posted = []; bench = running link k [] }
+after_delivery link k call (Some t) = after_arrival link k t.rest call t.message.to (lone.arrive_at (kits.board_at k t.message.to) t.message)
 
 abbrev pub ran : LinkKind → kits.Kit → List Message → KitCall → Done
-ran link k row (Load board address) = accessed link k row (Load board address) board (lone.load_at (kits.board_at k board) address)
-ran link k row (Store board address word) = accessed link k row (Store board address word) board (lone.store_at (kits.board_at k board) address word)
-ran link k row (Deliver pick) = delivered link k (Deliver pick) (taken link pick row)
+ran link k row (Load board address) = after_access link k row (Load board address) board (lone.load_at (kits.board_at k board) address)
+ran link k row (Store board address word) = after_access link k row (Store board address word) board (lone.store_at (kits.board_at k board) address word)
+ran link k row (Deliver pick) = after_delivery link k (Deliver pick) (taken link pick row)
 
 -- is there such a board, and does it take the access? A delivery is asked nothing.
 abbrev pub access_questions : kits.Kit → ℕ → ℕ → List (ℕ × Bool)

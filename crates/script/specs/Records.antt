@@ -3,7 +3,7 @@ use Rattle.std.specs.Prelude.{ℕ, ◌+◌, ◌-◌, ◌*◌, ◌/◌, ◌%◌, 
 use Rattle.std.specs.List.{between, range_with_len}
 use Rattle.script.specs.Digits.{numeral}
 use Rattle.script.specs.Letters.{letter_k, letter_p, letter_l, letter_s, letter_d}
-use Rattle.script.specs.Steps.{◌>>=◌}
+use Rattle.script.specs.Options.{◌>>=◌}
 use Rattle.memory.specs.declared.call.Call.TheVariants.{Load, Store, Deliver}
 use Rattle.script.specs.declared.call.Call.{Call}
 use Rattle.script.specs.declared.call.Call.TheVariants.{Kit, Place, Run}

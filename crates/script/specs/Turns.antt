@@ -5,7 +5,7 @@ use Rattle.wire.specs.declared.fault.Fault.{Fault}
 use Rattle.wire.specs.declared.message.Message.{Message}
 use Rattle.script.specs.Benches.{bench_of, Ready}
 use Rattle.script.specs.Plays as plays
-use Rattle.script.specs.Steps.{◌>>=◌}
+use Rattle.script.specs.Options.{◌>>=◌}
 use Rattle.script.specs.declared.answer.Answer.{Answer}
 use Rattle.script.specs.declared.bench.Bench.{Bench}
 use Rattle.script.specs.declared.call.Call.{Call}

@@ -11,6 +11,6 @@ loop-call-init g c = record {
 pub loop-call-preserved : goal.loop-call-preserved
 loop-call-preserved g c = record {
   played = one_more_played g.L.Link.limit g.L.Link.waiting g.L.Choice.joins g.L.Choice.chooses c.args.kit.now c.loop-call.kit c.call.new.self c.args.calls.now c.loop-call.call-index _ _ _ c.call.result
-      (omega (arith, c.loop-call-test.true)) c.loop-call.invariant.played c.call.ensures.goes_on (search rules);
+      (omega (arith, c.loop-call-test.true)) c.loop-call.invariant.played c.call.ensures (search rules);
   room = search rules;
 }

@@ -14,7 +14,7 @@ stands c = elim c.match-bench.branch [
 
 pub returns-in_err-answer : goal.returns-in_err-answer
 returns-in_err-answer c =
-    not_ran_turns c.args.bench.now c.in-Running.kit c.call.new.self c.args.call (stands (goal.at.returns-in_err-answer c).In-Running) _ c.from_residual-in_err-answer.result c.in_err-answer.ensures.goes_on c.in_err-answer.ensures.unchanged (search rules)
+    not_ran_turns c.args.bench.now c.in-Running.kit c.call.new.self c.args.call (stands (goal.at.returns-in_err-answer c).In-Running) _ c.from_residual-in_err-answer.result c.in_err-answer.ensures (search rules)
 
 pub returns : goal.returns
-returns c = ran_turns c.args.bench.now c.in-Running.kit c.call.new.self c.args.call (stands (goal.at.returns c).In-Running) c.in_ok-answer.answer c.in_ok-answer.ensures.goes_on
+returns c = ran_turns c.args.bench.now c.in-Running.kit c.call.new.self c.args.call (stands (goal.at.returns c).In-Running) c.in_ok-answer.answer c.in_ok-answer.ensures
