@@ -1,10 +1,11 @@
 pub mod WorkedCases
+mod Empty
+pub mod Beginnings
 mod Nodes
 mod Numbers
 mod Playing
 mod SameKits
 mod Runs
 mod Starting
-mod Empty
 mod OneItem
 mod Forced

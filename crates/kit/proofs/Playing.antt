@@ -1,5 +1,5 @@
 -- Words placed one after another, calls carried out one upon the other, and what a kit that does both promises.
-use Rattle.std.proofs.Common.{◌≡◌, ℕ, ◌+◌, ◌*◌, ◌<◌, ◌==◌, nat_le, List, [], ◌∷◌, ◌++◌, None, Ok, Err, Option, Result, length, take, drop, reverse, get_or, refl, ap, ◌∙◌, sym, subst, arith}
+use Rattle.std.proofs.Common.{◌≡◌, ℕ, ◌+◌, ◌<◌, Bool, true, false, List, [], ◌∷◌, ◌++◌, Some, None, Ok, Err, Option, Result, length, take, drop, reverse, get_or, refl, ap, ◌∙◌, sym, subst, arith}
 use Rattle.std.proofs.lemmas.Bool.Decides.{nat_tests}
 use Rattle.std.proofs.lemmas.Grind.{flat_map-append, reverse_onto}
 use Rattle.std.proofs.lemmas.List.{append_assoc, append-nil, map-append, reverse-append, take_more, take-append-drop}
@@ -17,7 +17,8 @@ use Rattle.memory.specs.Reached.{MayBegin}
 use Rattle.memory.specs.declared.answer.Answer.{Answer}
 use Rattle.memory.specs.declared.call.Call.{Call}
 use Rattle.memory.specs.declared.placement.Placement.{Placement}
-use Rattle.kit.specs.KitQuestions.{link_questions, place_questions}
+use Rattle.kit.proofs.Beginnings.{made_may}
+use Rattle.kit.specs.KitQuestions.{making_questions, place_questions}
 use Rattle.kit.specs.Plays.{placing_questions, setup_questions, Started, CarriedOut, nothing_yet, one_more, PlayedFrom, Plays}
 use Rattle.kit.specs.Runs.{LeadsTo, GoesOn}
 use Rattle.kit.specs.declared.running.Running.{Running}
@@ -59,23 +60,19 @@ all_in_range p (w ∷ ws) others passed inside =
     let same : reverse (w ∷ ws) ++ others ≡ reverse ws ++ w ∷ others = ap (λ x. x ++ others) (reverse_onto ws w []) ∙ append_assoc (reverse ws) (w ∷ []) others in
     subst (InRange p) (sym same) (all_in_range p ws (w ∷ others) first.1 (grind (arith, nat_tests, first.0), inside))
 
+both_passed : (qs rs : List (ℕ × Bool)) → first_no (qs ++ rs) ≡ None → (first_no qs ≡ None) × (first_no rs ≡ None)
+both_passed [] rs passed = (refl, passed)
+both_passed ((n, true) ∷ qs) rs passed = both_passed qs rs passed
+both_passed ((n, false) ∷ qs) rs passed = let never : Some n ≡ None = passed in absurd (cc)
+
 -- a kit that passes the questions of its setup may begin, and its link is empty
 may_begin : (n p limit count : ℕ) (words : List Placement) → first_no (setup_questions n p limit count words) ≡ None → MayBegin n p limit (reverse words) × (count ≡ 0)
 may_begin n p limit count words passed =
-    let words_questions = placing_questions p words in
-    let a = yes 4 (inside 1 16 n) ((5, inside 1 16 p) ∷ link_questions n limit count ++ words_questions) passed in
-    let b = yes 5 (inside 1 16 p) (link_questions n limit count ++ words_questions) a.1 in
-    let c = yes 6 (nat_le (n * n + 16) limit) ((7, (count == 0)) ∷ words_questions) b.1 in
-    let d = yes 7 (count == 0) words_questions c.1 in (
-      record {
-        some_boards = grind (arith, nat_tests, a.0);
-        boards = grind (arith, nat_tests, a.0);
-        some_pages = grind (arith, nat_tests, b.0);
-        pages = grind (arith, nat_tests, b.0);
-        room = grind (arith, nat_tests, c.0);
-        in_range = subst (InRange p) (append-nil (reverse words)) (all_in_range p words [] d.1 tt);
-      },
-      grind (arith, nat_tests, d.0),
+    let both = both_passed (making_questions n p limit count) (placing_questions p words) passed in
+    let made = made_may n p limit count both.0 in
+    let may = made.0 in (
+      record { some_boards = may.some_boards; boards = may.boards; some_pages = may.some_pages; pages = may.pages; room = may.room; in_range = subst (InRange p) (append-nil (reverse words)) (all_in_range p words [] both.1 tt) },
+      made.1,
     )
 
 module _ {L : Type 0} (limit : L → ℕ) (waiting : L → Bag Message) (joins : L → Message → Result (Unit {0}) Fault → L → Type 0) (chooses : L → ℕ → Option Message → L → Type 0) where

@@ -1,13 +1,12 @@
 -- Running kits with the same boards, link and count are the same: that the boards keep their form can be shown in one way alone.
-use Rattle.std.proofs.Common.{◌≡◌, ℕ, Bool, true, length, refl}
+use Rattle.std.proofs.Common.{◌≡◌, true, length}
 use Rattle.std.proofs.Math.Bool.{Bool-set}
 use mathlib.Core.HLevel.{is_prop→PathP}
 use native.Mathlib.Nat.{ℕ_set}
 use Rattle.lone.specs.Forms.{lone_form}
 use Rattle.memory.specs.Kits.{Kit, state_at, table_of, board_at}
 use Rattle.kit.specs.Clusters.{kit_of}
-use Rattle.kit.specs.Forms.{BoardForm, KitForm}
-use Rattle.kit.specs.declared.cluster.Cluster.{Cluster}
+use Rattle.kit.specs.Forms.{KitForm}
 use Rattle.kit.specs.declared.running.Running.{Running}
 
 same_form : (k : Kit) (f g : KitForm k) → f ≡ g

@@ -1,6 +1,7 @@
 pub mod Clusters
 pub mod Forms
 pub mod KitQuestions
+pub mod Loadings
 pub mod Plays
 pub mod KitAnswers
 pub mod OpenedCount

@@ -1,12 +1,12 @@
 -- What a call on a running kit does, and what becomes of every history that led to the kit.
-use Rattle.std.specs.Prelude.{◌≡◌, ℕ, List, [], ◌∷◌, ◌++◌, Some, None, Ok, Err, Option, Result, OnErr}
+use Rattle.std.specs.Prelude.{◌≡◌, ℕ, List, [], ◌∷◌, ◌++◌, Some, None, Ok, Option, Result, OnErr}
 use Rattle.std.proofs.Common.{inl, inr}
 use Rattle.wire.specs.Bags.{Bag}
 use Rattle.wire.specs.Links.{InTurn}
 use Rattle.wire.specs.declared.fault.Fault.{Fault}
 use Rattle.wire.specs.declared.message.Message.{Message}
 use Rattle.memory.specs.declared.answer.Answer.{Answer}
-use Rattle.memory.specs.declared.answer.Answer.TheVariants.{Accessed, Arrived, Quiet}
+use Rattle.memory.specs.declared.answer.Answer.TheVariants.{Quiet}
 use Rattle.memory.specs.declared.call.Call.{Call}
 use Rattle.memory.specs.declared.call.Call.TheVariants.{Load, Store, Deliver}
 use Rattle.memory.specs.Calls as calls

@@ -16,17 +16,17 @@ pub struct Loading<L> {
 }
 
 impl<L: Link + Drop> Loading<L> {
-    ghost use Rattle.std.specs.Prelude.{◌≡◌, IfOk};
-    ghost use Rattle.wire.specs.Bags.{empty, size};
+    ghost use Rattle.std.specs.Prelude.{◌≡◌, [], IfOk};
+    ghost use Rattle.wire.specs.Bags.{size};
     ghost use Rattle.wire.specs.Questions.{refusal, first_no};
     ghost use Rattle.memory.specs.Kits.{start_kit};
     ghost use Rattle.kit.specs.KitQuestions.{making_questions};
+    ghost use Rattle.kit.specs.Loadings.{LoadedWith};
 
     /// A kit of `boards` boards and `pages` pages over an empty link.
-    #[tactic(auto, using(crate::proofs::Empty::nothing_in))]
     pub fn new(link: L, boards: u8, pages: u32) -> Result<Loading<L>, Fault>
         ensures refused { refusal result ≡ first_no (making_questions boards pages (L.limit link) (size (L.waiting link))) }
-        ensures made { IfOk result (λ k. (kit_of k.cluster ≡ start_kit boards pages) × (k.link ≡ link) × (L.waiting k.link ≡ empty)) }
+        ensures made { IfOk result (λ k. (kit_of k.cluster ≡ start_kit boards pages) × (k.link ≡ link) × LoadedWith L.Link.limit L.waiting boards pages [] k) }
     {
         let size = Size::new(boards, pages)?;
         if link.limit() < size.least_limit() {
@@ -43,14 +43,15 @@ impl<L: Link + Drop> Loading<L> {
 }
 
 impl<L: Link> Loading<L> {
-    ghost use Rattle.std.specs.Prelude.{◌≡◌, ℕ, List, [], MatchResult};
-    ghost use Rattle.wire.specs.Bags.{empty};
+    ghost use Rattle.std.specs.Prelude.{◌≡◌, ℕ, List, [], ◌∷◌, IfOk, MatchResult};
     ghost use Rattle.wire.specs.Questions.{refusal, first_no};
     ghost use Rattle.memory.specs.Calls.{access_questions};
-    ghost use Rattle.memory.specs.Placements.{placed, after_placing};
+    ghost use Rattle.memory.specs.Placements.{placed};
+    ghost use Rattle.memory.specs.Reached.{MayBegin};
     ghost use Rattle.memory.specs.declared.placement.Placement.{Placement};
     ghost use Rattle.kit.specs.Clusters.{over};
     ghost use Rattle.kit.specs.KitQuestions.{place_questions};
+    ghost use Rattle.kit.specs.Loadings.{LoadedWith};
     ghost use Rattle.kit.specs.Runs.{LeadsTo};
 
     /// Writes a word at board 0, which owns every page until the kit starts.
@@ -60,6 +61,8 @@ impl<L: Link> Loading<L> {
         ensures placed { MatchResult result
             (λ _. (kit_of self.new.cluster ≡ placed (kit_of self.old.cluster) address word) × (self.new.link ≡ self.old.link))
             (λ _. self.new ≡ self.old) }
+        ensures loaded { (boards pages : ℕ) (words : List Placement) → LoadedWith L.Link.limit L.waiting boards pages words self.old →
+            IfOk result (λ _. LoadedWith L.Link.limit L.waiting boards pages (record { address = address; word = word } ∷ words) self.new) }
     {
         self.cluster.place(address, word)
     }
@@ -76,8 +79,8 @@ impl<L: Link> Loading<L> {
         ensures cluster { result.cluster ≡ self.cluster }
         ensures link { result.link ≡ self.link }
         ensures opened { result.opened ≡ 0 }
-        ensures begins { (boards pages : ℕ) (placements : List Placement) → kit_of self.cluster ≡ after_placing boards pages placements → L.waiting self.link ≡ empty →
-            LeadsTo L.Link.limit L.waiting boards pages (L.limit self.link) placements [] result }
+        ensures begins { (boards pages : ℕ) (words : List Placement) → LoadedWith L.Link.limit L.waiting boards pages words self →
+            MayBegin boards pages (L.limit self.link) words × LeadsTo L.Link.limit L.waiting boards pages (L.limit self.link) words [] result }
     {
         let Loading { cluster, link } = self;
         Running::new(cluster, link)

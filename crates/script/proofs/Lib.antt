@@ -2,7 +2,6 @@ pub mod Numerals
 pub mod Scripts
 mod Walks
 pub mod Listings
-mod Beginnings
 mod Rows
 mod Runs
 mod KitCalls

@@ -23,7 +23,7 @@ use Rattle.memory.specs.declared.call.Call.{Call as KitCall}
 use Rattle.memory.specs.declared.call.Call.TheVariants.{Load, Store, Deliver}
 use Rattle.memory.proofs.OneMemory.{is_one_memory, is_willing, never_refuses}
 use Rattle.kit.specs.KitQuestions.{place_questions}
-use Rattle.script.proofs.Beginnings.{made_may, placed_may}
+use Rattle.kit.proofs.Beginnings.{made_may, placed_may}
 use Rattle.script.proofs.Runs.{passed_after}
 use Rattle.script.proofs.Walks.{walk_more}
 use Rattle.script.specs.Benches.{over_link}
@@ -162,7 +162,7 @@ module _ (plan : KitPlan) where
       let words = words_more [] ds done in
       let kit = since.tells.1 in
       record {
-        may = subst (MayBegin plan.boards plan.pages largest_limit) (sym words) (placed_may plan.boards plan.pages (words_after [] ds) k address word kit passed since.may);
+        may = subst (MayBegin plan.boards plan.pages largest_limit) (sym words) (placed_may plan.boards plan.pages largest_limit (words_after [] ds) k address word kit passed since.may);
         tells = (history_more ds done ∙ append-nil (history_of ds) ∙ since.tells.0, ap (λ x. placed x address word) kit ∙ ap (after_placing plan.boards plan.pages) (sym words));
       }
 
@@ -224,7 +224,7 @@ module _ (plan : KitPlan) where
 -- Before a kit is made nothing is carried out but the record that makes it.
 made_first : (rs : List (List ℕ)) (call : Call) (done : Done) → first_no (record_questions no_kit (Some call)) ≡ None → carried_out no_kit call ≡ Some done → OneMemorySince done.answer (done_by done.bench rs)
 made_first rs (MakeKit plan) done passed e =
-    let since : Since plan (loading plan.link (start_kit plan.boards plan.pages)) [] = record { may = made_may plan.boards plan.pages passed; tells = (refl, refl) } in
+    let since : Since plan (loading plan.link (start_kit plan.boards plan.pages)) [] = record { may = (made_may plan.boards plan.pages largest_limit 0 passed).0; tells = (refl, refl) } in
     let all = all_since plan rs (loading plan.link (start_kit plan.boards plan.pages)) [] since in
     subst (λ (d : Done). OneMemorySince d.answer (done_by d.bench rs)) (same_Some _ done e) (one_memory_since plan all.0 (done_by (loading plan.link (start_kit plan.boards plan.pages)) rs) all.1)
 made_first rs (Place address word) done passed e = cc

@@ -19,7 +19,7 @@ use Rattle.kit.specs.KitQuestions.{making_questions, place_questions}
 use Rattle.kit.specs.Runs.{NothingChanges}
 use Rattle.kit.specs.declared.loading.Loading as loading
 use Rattle.kit.specs.declared.running.Running as running
-use Rattle.script.proofs.Beginnings.{made_may, placed_may}
+use Rattle.kit.proofs.Beginnings.{made_may, placed_may}
 use Rattle.script.proofs.Runs.{passed_after}
 use Rattle.script.proofs.KitCalls.{Runs, asks, said, came_on}
 use Rattle.script.specs.Benches.{bench_of, Ready, Starts}
@@ -121,7 +121,7 @@ placed_turns k t address word ready passed kit link =
           boards = b.boards;
           pages = b.pages;
           placements = record { address = address; word = word } ∷ b.placements;
-          may = placed_may b.boards b.pages b.placements (kit_of k.cluster) address word b.kit (sym passed) b.may;
+          may = placed_may b.boards b.pages largest_limit b.placements (kit_of k.cluster) address word b.kit (sym passed) b.may;
           kit = kit ∙ ap (λ x. placed x address word) b.kit;
         },
       );
@@ -134,7 +134,7 @@ made_turns plan t passed kit kind limit row = record {
   refused = passed;
   done = ([], rw (kit, kind) refl);
   kept = tt;
-  ready = (limit, row, record { boards = plan.boards; pages = plan.pages; placements = []; may = made_may plan.boards plan.pages (sym passed); kit = kit });
+  ready = (limit, row, record { boards = plan.boards; pages = plan.pages; placements = []; may = (made_may plan.boards plan.pages largest_limit 0 (sym passed)).0; kit = kit });
 }
 
 -- what a kit over the link of a script is asked before it starts
