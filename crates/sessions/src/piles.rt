@@ -9,9 +9,12 @@ use script::record::read_call;
 use std::alloc::{AllocError, Global};
 use wire::cap::Cap;
 use wire::fault::Fault;
-use wire::link::Link;
+use wire::link::{LARGEST_LIMIT, Link};
 use wire::pool::Pool;
 use wire::queue::Queue;
+
+/// How many characters a record has.
+const RECORD: usize = 16;
 
 /// A kit over whatever link, played through the library.
 #[derive(Drop)]
@@ -108,7 +111,7 @@ fn carry_out<L: Link + Drop>(stage: Stage<L>, text: &[u8]) -> Turn<L> {
 fn play_over<L: Link + Drop>(heap: Global, script: &[u8], link: L) -> Result<Vec<u8>, AllocError> {
     let mut listing = Vec::new(heap);
     let mut stage = Stage::NoKit(link);
-    for text in script.chunks(16) {
+    for text in script.chunks(RECORD) {
         let done = carry_out(stage, text);
         stage = done.stage;
         let refused = done.answer.is_err();
@@ -126,12 +129,12 @@ fn play_over<L: Link + Drop>(heap: Global, script: &[u8], link: L) -> Result<Vec
 
 /// Two caps over a link, neither of which leaves it as it is, and both wide enough for a kit of 16 boards.
 fn piled<L: Link + Drop>(link: L) -> Result<Cap<Cap<L>>, Fault> {
-    Cap::new(Cap::new(link, 280)?, 284)
+    Cap::new(Cap::new(link, LARGEST_LIMIT - 8)?, LARGEST_LIMIT - 4)
 }
 
 /// The link that a script names first.
 fn link_named(script: &[u8]) -> LinkKind {
-    for text in script.chunks(16) {
+    for text in script.chunks(RECORD) {
         if let Ok(Call::Kit(plan)) = read_call(text) {
             return plan.link;
         }
@@ -142,7 +145,7 @@ fn link_named(script: &[u8]) -> LinkKind {
 /// The listing of a script over two caps on the link that it names. Their choice is that of the link, so it is the listing without them.
 pub fn play_over_caps(heap: Global, script: &[u8]) -> Result<Vec<u8>, NotPlayed> {
     match link_named(script) {
-        LinkKind::Queue => Ok(play_over(heap, script, piled(Queue::new(288)?)?)?),
-        LinkKind::Pool => Ok(play_over(heap, script, piled(Pool::new(288)?)?)?),
+        LinkKind::Queue => Ok(play_over(heap, script, piled(Queue::new(LARGEST_LIMIT)?)?)?),
+        LinkKind::Pool => Ok(play_over(heap, script, piled(Pool::new(LARGEST_LIMIT)?)?)?),
     }
 }

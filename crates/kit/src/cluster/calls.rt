@@ -70,6 +70,7 @@ impl Cluster {
             && self.size.has_page(message.page)
     }
 
+    /// A board loads the word at an address, or opens the load.
     pub(crate) fn load(&mut self, board: u8, address: u32, out: &mut Outbox) -> AccessAnswer
         requires accepted { first_no (lone.access_questions (board_at (kit_of self.old) board) address) ≡ None }
         requires board { board < (kit_of self.old).boards }
@@ -81,6 +82,7 @@ impl Cluster {
         node.state.load(address, &node.table.entries[page_of(address) as usize], out)
     }
 
+    /// A board stores a word at an address, or opens the store.
     pub(crate) fn store(
         &mut self,
         board: u8,
