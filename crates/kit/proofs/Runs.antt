@@ -116,11 +116,11 @@ module _ {L : Type 0} (limit : L → ℕ) (waiting : L → Bag Message) where
     -- A delivery takes the message m, and leaves the link u.
     module _ (pick : ℕ) (r t : Running L) (m : Message) (u : L) (taken : Taken limit waiting r.link (Some m) u) (chosen : chooses r.link pick (Some m) u) (opened : t.opened ≡ r.opened) where
       -- the kit without the message
-      there : without (running_of limit waiting r) (waiting u) ≡ over r.cluster (limit u) (waiting u)
+      there : without (running_of limit waiting r) (waiting u) ≡ over (kit_of r.cluster) (limit u) (waiting u)
       there = rw taken.1 refl
 
       delivers : (answer : Result Answer Fault) (posts : List Message) →
-          Answers (arrival_questions (over r.cluster (limit u) (waiting u)) m) Arrived m.to (arrive_at (board_at (kit_of r.cluster) m.to) m) (over r.cluster (limit u) (waiting u)) answer posts (running_of limit waiting t) →
+          Answers (arrival_questions (over (kit_of r.cluster) (limit u) (waiting u)) m) Arrived m.to (arrive_at (board_at (kit_of r.cluster) m.to) m) (over (kit_of r.cluster) (limit u) (waiting u)) answer posts (running_of limit waiting t) →
           Delivers (running_of limit waiting r) answer posts (running_of limit waiting t)
       delivers answer posts arrives = record {
         message = m;
@@ -129,7 +129,7 @@ module _ {L : Type 0} (limit : L → ℕ) (waiting : L → Bag Message) where
         arrives = subst (λ s. Answers (arrival_questions s m) Arrived m.to (arrive_at (board_at (kit_of r.cluster) m.to) m) s answer posts (running_of limit waiting t)) (sym there) arrives;
       }
 
-      pub arrived : (posts : List Message) (answer : Arrival) → first_no (arrival_questions (over r.cluster (limit u) (waiting u)) m) ≡ None →
+      pub arrived : (posts : List Message) (answer : Arrival) → first_no (arrival_questions (over (kit_of r.cluster) (limit u) (waiting u)) m) ≡ None →
           Steps m.to (arrive_at (board_at (kit_of r.cluster) m.to) m) (kit_of r.cluster) (kit_of t.cluster) posts answer → Sent limit waiting posts u t.link → InTurn joins posts u t.link →
           GoesOn limit waiting joins chooses (Deliver pick) (Ok (Arrived answer)) r t
       unfolding delivers
@@ -147,11 +147,11 @@ module _ {L : Type 0} (limit : L → ℕ) (waiting : L → Bag Message) where
 
       -- the fault of a refused arrival rises
       pub not_arrived : (asked : Result (Unit {0}) Fault) (answer : Result (Option Arrival) Fault) (fault : Fault) →
-          refusal asked ≡ first_no (arrival_questions (over r.cluster (limit u) (waiting u)) m) → asked ≡ Err fault → answer ≡ Err fault → kit_of t.cluster ≡ kit_of r.cluster → t.link ≡ u →
+          refusal asked ≡ first_no (arrival_questions (over (kit_of r.cluster) (limit u) (waiting u)) m) → asked ≡ Err fault → answer ≡ Err fault → kit_of t.cluster ≡ kit_of r.cluster → t.link ≡ u →
           GoesOn limit waiting joins chooses (Deliver pick) (delivered answer) r t
       unfolding delivers
       not_arrived asked answer fault asks was rises kit link =
-          let asked_so = subst (λ x. refusal x ≡ first_no (arrival_questions (over r.cluster (limit u) (waiting u)) m)) was asks in
+          let asked_so = subst (λ x. refusal x ≡ first_no (arrival_questions (over (kit_of r.cluster) (limit u) (waiting u)) m)) was asks in
           let does = inr (delivers (Err fault) [] (asked_so, (refl, rw (kit, link) refl))) in
           subst (λ x. GoesOn limit waiting joins chooses (Deliver pick) (delivered x) r t) (sym rises)
           (record { posted = []; does = does; link = (u, chosen, link); opened = opened; unchanged = λ e. absurd (no_answer fault e); kept = keeps (record { call = Deliver pick; answer = Err fault; posted = [] }) r t does opened })

@@ -18,6 +18,6 @@ node_entries n = n.table.entries
 abbrev pub kit_of : Cluster → Kit
 kit_of k = record { boards = k.size.boards; pages = k.size.pages; states = map node_state k.nodes; tables = map node_entries k.nodes }
 
--- the kit over a link with this limit, on which these messages wait
-abbrev pub over : Cluster → ℕ → Bag Message → calls.Running
-over k limit waiting = record { kit = kit_of k; limit = limit; waiting = waiting }
+-- a kit over a link with this limit, on which these messages wait
+abbrev pub over : Kit → ℕ → Bag Message → calls.Running
+over k limit waiting = record { kit = k; limit = limit; waiting = waiting }

@@ -11,9 +11,8 @@ use Rattle.memory.specs.Reached.{MayBegin}
 use Rattle.memory.specs.declared.answer.Answer.{Answer}
 use Rattle.memory.specs.declared.call.Call.{Call}
 use Rattle.memory.specs.declared.placement.Placement.{Placement}
-use Rattle.kit.specs.Clusters.{kit_of}
 use Rattle.kit.specs.KitQuestions.{making_questions, place_questions}
-use Rattle.kit.specs.Runs.{Kept, GoesOn}
+use Rattle.kit.specs.Runs.{running_kit, running_link, opened_count, Kept, GoesOn}
 use Rattle.kit.specs.declared.play.NotPlayed.{NotPlayed}
 use Rattle.kit.specs.declared.play.NotPlayed.TheVariants.{Refused, NoMemory}
 use Rattle.kit.specs.declared.running.Running.{Running}
@@ -34,9 +33,9 @@ setup_refusal (Err (NoMemory error)) = None
 
 -- a kit of n boards and p pages over this link, started with these words
 pub record Started {L : Type 0} (n p : ℕ) (link : L) (words : List Placement) (r : Running L) : Type 0 where
-  pub placed : kit_of r.cluster ≡ after_placing n p (reverse words)
-  pub same_link : r.link ≡ link
-  pub opened : r.opened ≡ 0
+  pub placed : running_kit r ≡ after_placing n p (reverse words)
+  pub same_link : running_link r ≡ link
+  pub opened : opened_count r ≡ 0
 
 module _ {L : Type 0} (limit : L → ℕ) (waiting : L → Bag Message) (joins : L → Message → Result (Unit {0}) Fault → L → Type 0) (chooses : L → ℕ → Option Message → L → Type 0) where
   -- the calls of a history were carried out one upon the other, from start on

@@ -12,13 +12,14 @@ use Rattle.memory.specs.declared.call.Call.TheVariants.{Load, Store, Deliver}
 use Rattle.memory.specs.Calls as calls
 use Rattle.memory.specs.Calls.{DoesCall}
 use Rattle.memory.specs.Histories.{History}
+use Rattle.memory.specs.Kits.{Kit}
 use Rattle.memory.specs.OneMemory.{OneMemory}
 use Rattle.memory.specs.Placements.{array}
 use Rattle.memory.specs.declared.placement.Placement.{Placement}
 use Rattle.memory.specs.Promises.{NothingIsRefused}
 use Rattle.memory.specs.Reached.{MayBegin, begun, Reached}
 use Rattle.memory.specs.Willing.{Willing}
-use Rattle.kit.specs.Clusters.{over}
+use Rattle.kit.specs.Clusters.{kit_of, over}
 use Rattle.kit.specs.OpenedCount.{openings, counted, opened_after}
 use Rattle.kit.specs.declared.running.Running.{Running}
 
@@ -28,14 +29,24 @@ NothingChanges (Load board address) answer before after = OnErr answer (after �
 NothingChanges (Store board address word) answer before after = OnErr answer (after ≡ before)
 NothingChanges (Deliver pick) answer before after = answer ≡ Ok Quiet → after ≡ before
 
+-- a running kit's boards, its link, and how many accesses it has opened
+abbrev pub running_kit : {L : Type 0} → Running L → Kit
+running_kit r = kit_of r.cluster
+
+abbrev pub running_link : {L : Type 0} → Running L → L
+running_link r = r.link
+
+abbrev pub opened_count : {L : Type 0} → Running L → ℕ
+opened_count r = r.opened
+
 module _ {L : Type 0} (limit : L → ℕ) (waiting : L → Bag Message) where
   abbrev pub running_of : Running L → calls.Running
-  running_of r = over r.cluster (limit r.link) (waiting r.link)
+  running_of r = over (running_kit r) (limit (running_link r)) (waiting (running_link r))
 
   -- a history of a kit that began so leads to r
   pub record LeadsTo (n p first_limit : ℕ) (placements : List Placement) (history : History) (r : Running L) : Type 0 where
     pub reached : Reached (begun n p first_limit placements) history (running_of r)
-    pub opened : r.opened ≡ counted (openings history)
+    pub opened : opened_count r ≡ counted (openings history)
 
   -- it leads to r, it is one memory and that of a willing kit, and of what waits nothing is refused
   pub record Kept (n p first_limit : ℕ) (placements : List Placement) (history : History) (r : Running L) : Type 0 where
@@ -57,8 +68,8 @@ module _ {L : Type 0} (limit : L → ℕ) (waiting : L → Bag Message) (joins :
     pub posted : List Message
     -- the answer, the messages, the tables and what waits are those of the call's meaning
     pub does : DoesCall call (running_of limit waiting r) answer posted (running_of limit waiting t)
-    pub link : LinkDoes call (running_of limit waiting r) answer posted (running_of limit waiting t) does r.link t.link
-    pub opened : t.opened ≡ opened_after r.opened answer
+    pub link : LinkDoes call (running_of limit waiting r) answer posted (running_of limit waiting t) does (running_link r) (running_link t)
+    pub opened : opened_count t ≡ opened_after (opened_count r) answer
     pub unchanged : NothingChanges call answer r t
     -- every history that led to r leads to t with this call, and is one memory
     pub kept : (n p first_limit : ℕ) (placements : List Placement) → MayBegin n p first_limit placements → (history : History) → LeadsTo limit waiting n p first_limit placements history r →

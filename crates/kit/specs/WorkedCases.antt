@@ -19,7 +19,7 @@ use Rattle.memory.specs.declared.answer.Answer.TheVariants.{Accessed, Arrived}
 use Rattle.memory.specs.declared.call.Call.TheVariants.{Load, Store, Deliver}
 use Rattle.kit.specs.KitQuestions.{making_questions, place_questions}
 use Rattle.kit.specs.Plays.{PlayedFrom}
-use Rattle.kit.specs.Runs.{running_of}
+use Rattle.kit.specs.Runs.{running_of, opened_count}
 use Rattle.kit.specs.declared.running.Running.{Running}
 
 -- The answers of calls on a kit; the accesses are of address 0.
@@ -53,7 +53,7 @@ module _ {L : Type 0} (limit : L → ℕ) (waiting : L → Bag Message) where
     pub first_limit : ℕ
     pub may_begin : MayBegin n 1 first_limit []
     pub begins : running_of limit waiting r ≡ begun n 1 first_limit []
-    pub none_opened : r.opened ≡ 0
+    pub none_opened : opened_count r ≡ 0
 
 module _ {L : Type 0} (limit : L → ℕ) (waiting : L → Bag Message) (joins : L → Message → Result (Unit {0}) Fault → L → Type 0) (chooses : L → ℕ → Option Message → L → Type 0) where
   pub record WorkedCases : Type 0 where
@@ -80,10 +80,10 @@ module _ {L : Type 0} (limit : L → ℕ) (waiting : L → Bag Message) (joins :
     pub nothing_waits : (a b : L) → size (waiting a) ≡ 0 → (take : Take limit waiting a b) → (take.answer ≡ None) × (b ≡ a)
     -- one board stores 5 and loads it: both are answered with 5 within their calls, and no access was opened
     pub one_board : (r t : Running L) (answers : List (Result Answer Fault)) → JustStarted limit waiting 1 r → PlayedFrom limit waiting joins chooses r (Store 0 0 5 ∷ Load 0 0 ∷ []) answers t →
-        (answers ≡ at_once 5 ∷ at_once 5 ∷ []) × (t.opened ≡ 0)
+        (answers ≡ at_once 5 ∷ at_once 5 ∷ []) × (opened_count t ≡ 0)
     -- of three boards, board 1 stores 5 and comes to own the page, and board 2, which still hints at board 0, loads it:
     -- board 0 passes the request on to board 1, so that the load finishes with hops 1, and two accesses were opened
     pub passed_on : (a b c d e : ℕ) (r t : Running L) (answers : List (Result Answer Fault)) → JustStarted limit waiting 3 r →
         PlayedFrom limit waiting joins chooses r (Store 1 0 5 ∷ Deliver a ∷ Deliver b ∷ Load 2 0 ∷ Deliver c ∷ Deliver d ∷ Deliver e ∷ []) answers t →
         (answers ≡ opens ∷ moves 0 WriteRequest 0 ∷ finishes 1 kind.Store 5 0 ∷ opens ∷ moves 0 ReadRequest 0 ∷ moves 1 ReadRequest 1 ∷ finishes 2 kind.Load 5 1 ∷ [])
-        × (t.opened ≡ 2)
+        × (opened_count t ≡ 2)

@@ -21,12 +21,12 @@ impl<L: Link + Drop> Loading<L> {
     ghost use Rattle.wire.specs.Questions.{refusal, first_no};
     ghost use Rattle.memory.specs.Kits.{start_kit};
     ghost use Rattle.kit.specs.KitQuestions.{making_questions};
-    ghost use Rattle.kit.specs.Loadings.{LoadedWith};
+    ghost use Rattle.kit.specs.Loadings.{loading_kit, loading_link, LoadedWith};
 
     /// A kit of `boards` boards and `pages` pages over an empty link.
     pub fn new(link: L, boards: u8, pages: u32) -> Result<Loading<L>, Fault>
         ensures refused { refusal result ≡ first_no (making_questions boards pages (L.limit link) (size (L.waiting link))) }
-        ensures made { IfOk result (λ k. (kit_of k.cluster ≡ start_kit boards pages) × (k.link ≡ link) × LoadedWith L.Link.limit L.waiting boards pages [] k) }
+        ensures made { IfOk result (λ k. (loading_kit k ≡ start_kit boards pages) × (loading_link k ≡ link) × LoadedWith L.Link.limit L.waiting boards pages [] k) }
     {
         let size = Size::new(boards, pages)?;
         if link.limit() < size.least_limit() {
@@ -51,15 +51,15 @@ impl<L: Link> Loading<L> {
     ghost use Rattle.memory.specs.declared.placement.Placement.{Placement};
     ghost use Rattle.kit.specs.Clusters.{over};
     ghost use Rattle.kit.specs.KitQuestions.{place_questions};
-    ghost use Rattle.kit.specs.Loadings.{LoadedWith};
-    ghost use Rattle.kit.specs.Runs.{LeadsTo};
+    ghost use Rattle.kit.specs.Loadings.{loading_kit, loading_link, LoadedWith};
+    ghost use Rattle.kit.specs.Runs.{running_kit, running_link, opened_count, LeadsTo};
 
     /// Writes a word at board 0, which owns every page until the kit starts.
     // An address and its word are a key and its value, as in a map's `insert`: a struct of them would be taken apart at each call.
     pub fn place(&mut self, address: u32, word: u32) -> Result<(), Fault>
-        ensures refused { refusal result ≡ first_no (place_questions (kit_of self.old.cluster).pages address) }
+        ensures refused { refusal result ≡ first_no (place_questions (loading_kit self.old).pages address) }
         ensures placed { MatchResult result
-            (λ _. (kit_of self.new.cluster ≡ placed (kit_of self.old.cluster) address word) × (self.new.link ≡ self.old.link))
+            (λ _. (loading_kit self.new ≡ placed (loading_kit self.old) address word) × (loading_link self.new ≡ loading_link self.old))
             (λ _. self.new ≡ self.old) }
         ensures loaded { (boards pages : ℕ) (words : List Placement) → LoadedWith L.Link.limit L.waiting boards pages words self.old →
             IfOk result (λ _. LoadedWith L.Link.limit L.waiting boards pages (record { address = address; word = word } ∷ words) self.new) }
@@ -69,18 +69,18 @@ impl<L: Link> Loading<L> {
 
     /// What a load or a store is asked once the kit is started.
     pub fn ask_access(&self, board: u8, address: u32) -> Result<(), Fault>
-        ensures { refusal result ≡ first_no (access_questions (over self.now.cluster (L.limit self.now.link) (L.waiting self.now.link)) board address) }
+        ensures { refusal result ≡ first_no (access_questions (over (loading_kit self.now) (L.limit (loading_link self.now)) (L.waiting (loading_link self.now))) board address) }
     {
         self.cluster.ask_access(board, address, &self.link)
     }
 
     /// Starts the kit, and uses up the loading one.
     pub fn start(self) -> Running<L>
-        ensures cluster { result.cluster ≡ self.cluster }
-        ensures link { result.link ≡ self.link }
-        ensures opened { result.opened ≡ 0 }
+        ensures kit { running_kit result ≡ loading_kit self }
+        ensures link { running_link result ≡ loading_link self }
+        ensures opened { opened_count result ≡ 0 }
         ensures begins { (boards pages : ℕ) (words : List Placement) → LoadedWith L.Link.limit L.waiting boards pages words self →
-            MayBegin boards pages (L.limit self.link) words × LeadsTo L.Link.limit L.waiting boards pages (L.limit self.link) words [] result }
+            MayBegin boards pages (L.limit (loading_link self)) words × LeadsTo L.Link.limit L.waiting boards pages (L.limit (loading_link self)) words [] result }
     {
         let Loading { cluster, link } = self;
         Running::new(cluster, link)

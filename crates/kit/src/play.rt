@@ -3,7 +3,7 @@ ghost use Rattle.wire.specs.Bags.{size};
 ghost use Rattle.wire.specs.Questions.{refusal, first_no};
 ghost use Rattle.memory.specs.Kits.{start_kit};
 ghost use Rattle.memory.specs.Placements.{after_placing};
-ghost use Rattle.kit.specs.Clusters.{kit_of};
+ghost use Rattle.kit.specs.Loadings.{loading_kit, loading_link};
 ghost use Rattle.kit.specs.Plays.{placing_questions, setup_questions, setup_refusal, Started, PlayedFrom, Plays};
 ghost use Rattle.kit.specs.declared.play.NotPlayed.TheVariants.{Refused, NoMemory};
 
@@ -50,9 +50,9 @@ impl From<AllocError> for NotPlayed {
 
 /// Places words, one after another, as far as none is refused.
 fn place_all<L: Link>(kit: &mut Loading<L>, words: &[Placement]) -> Result<(), Fault>
-    ensures refused { refusal result ≡ first_no (placing_questions (kit_of kit.old.cluster).pages words.now) }
-    ensures placed { IfOk result (λ _. (boards pages : ℕ) → kit_of kit.old.cluster ≡ start_kit boards pages → kit_of kit.new.cluster ≡ after_placing boards pages (reverse words.now)) }
-    ensures link { kit.new.link ≡ kit.old.link }
+    ensures refused { refusal result ≡ first_no (placing_questions (loading_kit kit.old).pages words.now) }
+    ensures placed { IfOk result (λ _. (boards pages : ℕ) → loading_kit kit.old ≡ start_kit boards pages → loading_kit kit.new ≡ after_placing boards pages (reverse words.now)) }
+    ensures link { loading_link kit.new ≡ loading_link kit.old }
 {
     for word in words {
         kit.place(word.address, word.word)?;

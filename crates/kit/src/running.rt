@@ -24,7 +24,7 @@ impl<L: Link> Running<L> {
     ghost use Rattle.memory.specs.declared.call.Call.TheVariants.{Load, Store, Deliver};
     ghost use Rattle.kit.specs.KitAnswers.{accessed, delivered};
     ghost use Rattle.kit.specs.OpenedCount.{opened_after};
-    ghost use Rattle.kit.specs.Runs.{GoesOn};
+    ghost use Rattle.kit.specs.Runs.{GoesOn, opened_count};
 
     /// A kit just started.
     pub(crate) fn new(cluster: Cluster, link: L) -> Running<L>
@@ -98,7 +98,7 @@ impl<L: Link> Running<L> {
 
     /// How many accesses were opened since the kit was started. The count stops at the largest.
     pub fn opened(&self) -> u32
-        ensures { result ≡ self.now.opened }
+        ensures { result ≡ opened_count self.now }
     {
         self.opened
     }

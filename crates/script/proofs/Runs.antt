@@ -16,6 +16,7 @@ use Rattle.memory.specs.declared.answer.Answer.TheVariants.{Accessed, Quiet}
 use Rattle.memory.specs.declared.call.Call.{Call as KitCall}
 use Rattle.memory.specs.declared.call.Call.TheVariants.{Deliver}
 use Rattle.memory.proofs.OneMemory.{never_refuses}
+use Rattle.kit.specs.Clusters.{over}
 use Rattle.script.proofs.Rows.{taken_is}
 use Rattle.script.specs.Benches.{over_link, Came}
 use Rattle.script.specs.Choosing.{taken, place_of}
@@ -50,7 +51,7 @@ module _ (k : Kit) (row : List Message) (came : Came k row) where
 
 -- whatever the limit
 abbrev pub on_link : Kit → ℕ → List Message → State
-on_link k limit row = record { kit = k; limit = limit; waiting = bag row }
+on_link k limit row = over k limit (bag row)
 
 module _ (k : Kit) (limit : ℕ) (row : List Message) where
   pub access_says : (link : LinkKind) (call : KitCall) (board address : ℕ) (o : lone.Outcome AccessAnswer) (a : KitAnswer) (posted : List Message) (t : State) (row-after : List Message) →

@@ -9,7 +9,9 @@ use Rattle.memory.specs.Kits.{Kit}
 use Rattle.memory.specs.Placements.{after_placing}
 use Rattle.memory.specs.declared.placement.Placement.{Placement}
 use Rattle.memory.specs.Reached.{MayBegin, begun, Reached}
-use Rattle.kit.specs.Clusters.{kit_of}
+use Rattle.kit.specs.Clusters.{over}
+use Rattle.kit.specs.Loadings.{loading_kit, loading_link}
+use Rattle.kit.specs.Runs.{running_kit, running_link}
 use Rattle.script.specs.NamedLinks.{kind_of, limit_of, row_of}
 use Rattle.script.specs.Plays as plays
 use Rattle.script.specs.declared.bench.Bench.{Bench}
@@ -17,12 +19,12 @@ use Rattle.script.specs.declared.bench.Bench.TheVariants.{NoKit, Loading, Runnin
 
 abbrev pub bench_of : Bench → plays.Bench
 bench_of NoKit = plays.no_kit
-bench_of (Loading k) = plays.loading (kind_of k.link) (kit_of k.cluster)
-bench_of (Running k) = plays.running (kind_of k.link) (kit_of k.cluster) (row_of k.link)
+bench_of (Loading k) = plays.loading (kind_of (loading_link k)) (loading_kit k)
+bench_of (Running k) = plays.running (kind_of (running_link k)) (running_kit k) (row_of (running_link k))
 
 -- a kit over a link of the largest limit
 abbrev pub over_link : Kit → List Message → calls.Running
-over_link k row = record { kit = k; limit = largest_limit; waiting = bag row }
+over_link k row = over k largest_limit (bag row)
 
 -- a kit that is loading has had words placed; one that is running has had a history since
 pub record Began (k : Kit) : Type 0 where
@@ -43,8 +45,8 @@ pub record Came (k : Kit) (row : List Message) : Type 0 where
 -- the link is one of the largest limit, on which nothing waits before the start, and the kit has come to be what it is by the calls of kits
 abbrev pub Ready : Bench → Type 0
 Ready NoKit = Unit {0}
-Ready (Loading k) = (limit_of k.link ≡ largest_limit) × (row_of k.link ≡ []) × Began (kit_of k.cluster)
-Ready (Running k) = (limit_of k.link ≡ largest_limit) × Came (kit_of k.cluster) (row_of k.link)
+Ready (Loading k) = (limit_of (loading_link k) ≡ largest_limit) × (row_of (loading_link k) ≡ []) × Began (loading_kit k)
+Ready (Running k) = (limit_of (running_link k) ≡ largest_limit) × Came (running_kit k) (row_of (running_link k))
 
 abbrev pub IsRunning : Bench → Type 0
 IsRunning NoKit = ⊥
@@ -54,5 +56,5 @@ IsRunning (Running k) = Unit {0}
 -- the kit that was loading is running, with nothing on its link
 abbrev pub Starts : Bench → Bench → Type 0
 Starts NoKit after = after ≡ NoKit
-Starts (Loading k) after = (bench_of after ≡ plays.running (kind_of k.link) (kit_of k.cluster) []) × IsRunning after × Ready after
+Starts (Loading k) after = (bench_of after ≡ plays.running (kind_of (loading_link k)) (loading_kit k) []) × IsRunning after × Ready after
 Starts (Running k) after = after ≡ Running k

@@ -2,8 +2,8 @@ ghost use Rattle.std.specs.Prelude.{◌≡◌, [], IfOk, Some};
 ghost use Rattle.wire.specs.Links.{largest_limit};
 ghost use Rattle.wire.specs.Questions.{refusal, first_no};
 ghost use Rattle.memory.specs.Kits.{start_kit};
-ghost use Rattle.kit.specs.Clusters.{kit_of};
 ghost use Rattle.kit.specs.KitQuestions.{making_questions};
+ghost use Rattle.kit.specs.Loadings.{loading_kit, loading_link};
 ghost use Rattle.script.specs.Benches.{Ready, Starts};
 ghost use Rattle.script.specs.NamedLinks.{kind_of, limit_of, row_of};
 ghost use Rattle.script.specs.Plays.{run_questions};
@@ -25,7 +25,7 @@ use wire::link::LARGEST_LIMIT;
 /// The kit of a plan over an empty link of the largest limit.
 fn make_kit(plan: KitPlan) -> Result<Loading<NamedLink>, Fault>
     ensures refused { refusal result ≡ first_no (making_questions plan.boards plan.pages largest_limit 0) }
-    ensures made { IfOk result (λ k. (kit_of k.cluster ≡ start_kit plan.boards plan.pages) × (kind_of k.link ≡ plan.link) × (limit_of k.link ≡ largest_limit) × (row_of k.link ≡ [])) }
+    ensures made { IfOk result (λ k. (loading_kit k ≡ start_kit plan.boards plan.pages) × (kind_of (loading_link k) ≡ plan.link) × (limit_of (loading_link k) ≡ largest_limit) × (row_of (loading_link k) ≡ [])) }
 {
     let link = NamedLink::new(plan.link, LARGEST_LIMIT)?;
     Loading::new(link, plan.boards, plan.pages)
@@ -57,9 +57,9 @@ fn place(bench: &mut Bench, address: u32, word: u32) -> Result<Answer, Fault>
 
 /// What the call that starts a kit is asked before.
 fn ask_first(kit: &Loading<NamedLink>, call: KitCall) -> Result<(), Fault>
-    requires limit { limit_of kit.now.link ≡ largest_limit }
-    requires empty { row_of kit.now.link ≡ [] }
-    ensures { refusal result ≡ first_no (run_questions (kit_of kit.now.cluster) call) }
+    requires limit { limit_of (loading_link kit.now) ≡ largest_limit }
+    requires empty { row_of (loading_link kit.now) ≡ [] }
+    ensures { refusal result ≡ first_no (run_questions (loading_kit kit.now) call) }
 {
     match call {
         KitCall::Load { board, address } | KitCall::Store { board, address, .. } => {

@@ -22,7 +22,7 @@ use wire::message::Message;
 impl Cluster {
     /// What a load or a store is asked over a link: the room comes last.
     pub(crate) fn ask_access<L: Link>(&self, board: u8, address: u32, link: &L) -> Result<(), Fault>
-        ensures { refusal result ≡ first_no (access_questions (over self.now (L.limit link.now) (L.waiting link.now)) board address) }
+        ensures { refusal result ≡ first_no (access_questions (over (kit_of self.now) (L.limit link.now) (L.waiting link.now)) board address) }
     {
         if !self.size.has_board(board) {
             return Err(Fault::NoSuchBoard);
@@ -39,7 +39,7 @@ impl Cluster {
     /// What a message taken from a link is asked: the room comes last.
     pub(crate) fn ask_arrival<L: Link>(&self, message: &Message, link: &L) -> Result<(), Fault>
         requires { KitForm (kit_of self.now) }
-        ensures refused { refusal result ≡ first_no (arrival_questions (over self.now (L.limit link.now) (L.waiting link.now)) message.now) }
+        ensures refused { refusal result ≡ first_no (arrival_questions (over (kit_of self.now) (L.limit link.now) (L.waiting link.now)) message.now) }
         ensures passed { IfOk result (λ _. (message.now.to < (kit_of self.now).boards)
             × (first_no (lone.arrival_questions (board_at (kit_of self.now) message.now.to) message.now) ≡ None)
             × (size (L.waiting link.now) + outbox_room ≤ L.limit link.now)) }
