@@ -143,7 +143,7 @@ fn link_named(script: &[u8]) -> LinkKind {
 }
 
 /// The listing of a script over two caps on the link that it names. Their choice is that of the link, so it is the listing without them.
-pub fn play_over_caps(heap: Global, script: &[u8]) -> Result<Vec<u8>, NotPlayed> {
+pub(crate) fn play_over_caps(heap: Global, script: &[u8]) -> Result<Vec<u8>, NotPlayed> {
     match link_named(script) {
         LinkKind::Queue => Ok(play_over(heap, script, piled(Queue::new(LARGEST_LIMIT)?)?)?),
         LinkKind::Pool => Ok(play_over(heap, script, piled(Pool::new(LARGEST_LIMIT)?)?)?),

@@ -4,7 +4,7 @@ use std::rt::Files;
 use std::{fs, io, str};
 
 /// Plays the script of a name, on the bench and over two caps through the library, and prints whether its listing is the stored one.
-pub fn agrees<R: Files + Print + AllocGlobal>(rt: &R, name: &str) -> io::Result<bool> {
+pub(crate) fn agrees<R: Files + Print + AllocGlobal>(rt: &R, name: &str) -> io::Result<bool> {
     let script = stored(rt, name, "script")?;
     let expected = stored(rt, name, "listing")?;
     let played = script::play::play(rt.alloc(), &script)?;
