@@ -1,5 +1,5 @@
 -- Which messages a board expects, by the stage of its open access and the message's kind together, with the entry of the message's page.
-use Rattle.std.specs.Prelude.{ℕ, Bool, true, false, not, ◌&&◌, List, Some, None, Option, ◌==◌}
+use Rattle.std.specs.Prelude.{ℕ, Bool, false, not, ◌&&◌, List, is_some, ◌==◌}
 use Rattle.std.specs.List.{list_any}
 use Rattle.wire.specs.BoardSets.{has}
 use Rattle.wire.specs.declared.message.Message.{Message}
@@ -16,10 +16,6 @@ use Rattle.board.specs.Serving.{owns}
 -- a request of this board waits
 abbrev pub waits : ℕ → List Request → Bool
 waits board rs = list_any (λ r. r.asker == board) rs
-
-abbrev pub is_some : Option ℕ → Bool
-is_some None = false
-is_some (Some board) = true
 
 -- a request whose asker is another board, and has no request that waits
 abbrev pub new_asker : BoardState → Message → Bool

@@ -131,7 +131,8 @@ module _ {L : Type 0} (limit : L → ℕ) (waiting : L → Bag Message) (joins :
   all_counted (c ∷ cs) (a ∷ answers) r t on = all_counted cs answers on.0 t on.2 ∙ ap (λ n. opened_after_each n answers) on.1.opened
 
   -- calls on a kit just started
-  pub played : (n : ℕ) (cs : List Call) (answers : List (Result Answer Fault)) (r t : Running L) → JustStarted limit waiting n r → 1 ≤ n * n → goes 1 (desk n) (map first_pick cs) ≡ true →
+  pub played : (n : ℕ) (cs : List Call) (answers : List (Result Answer Fault)) (r t : Running L) →
+      JustStarted limit waiting n 1 r → 1 ≤ n * n → goes 1 (desk n) (map first_pick cs) ≡ true →
       PlayedFrom limit waiting joins chooses r cs answers t → (answers ≡ answers_of (desk n) cs) × (t.opened ≡ opened_after_each 0 (answers_of (desk n) cs))
   played n cs answers r t k some g p =
       let on : CallsGoOn cs answers r t = subst (λ x. CallsGoOn x answers r t) p.calls_are (subst (λ x. CallsGoOn (map (λ e. e.call) p.history) x r t) p.answers_are (as_calls p.carried_out)) in

@@ -1,8 +1,11 @@
 -- Words placed one after another, calls carried out one upon the other, and what a kit that does both promises.
-use Rattle.std.proofs.Common.{◌≡◌, ℕ, ◌+◌, ◌<◌, Bool, true, false, List, [], ◌∷◌, ◌++◌, Some, None, Ok, Err, Option, Result, length, take, drop, reverse, get_or, refl, ap, ◌∙◌, sym, subst, arith}
+use Rattle.std.proofs.Common.{◌≡◌, ℕ, ◌+◌, ◌<◌, Bool, true, false, List, [], ◌∷◌, ◌++◌, map, Some, None, IsSomeAnd}
+use Rattle.std.proofs.Common.{Ok, Err, Option, Result, length, take, drop, reverse, get_or, set, refl, ap, ◌∙◌, sym}
+use Rattle.std.proofs.Common.{subst, arith}
 use Rattle.std.proofs.lemmas.Bool.Decides.{nat_tests}
-use Rattle.std.proofs.lemmas.Grind.{flat_map-append, reverse_onto}
-use Rattle.std.proofs.lemmas.List.{append_assoc, append-nil, map-append, reverse-append, take_more, take-append-drop}
+use Rattle.std.proofs.lemmas.Grind.{flat_map-append, reverse_onto, drop_more_same}
+use Rattle.std.proofs.lemmas.List.{append_assoc, append-nil, map-append, reverse-append, take_more, take_more_set}
+use Rattle.std.proofs.lemmas.List.{take-append-drop, get_or-drop, drop-set-lt}
 use Rattle.wire.specs.Bags.{Bag, size}
 use Rattle.wire.specs.Faults.{number}
 use Rattle.wire.specs.Questions.{first_no, refusal, inside}
@@ -19,8 +22,10 @@ use Rattle.memory.specs.declared.call.Call.{Call}
 use Rattle.memory.specs.declared.placement.Placement.{Placement}
 use Rattle.kit.proofs.Beginnings.{made_may}
 use Rattle.kit.specs.KitQuestions.{making_questions, place_questions}
-use Rattle.kit.specs.Plays.{placing_questions, setup_questions, Started, CarriedOut, nothing_yet, one_more, PlayedFrom, Plays}
+use Rattle.kit.specs.Plays.{placing_questions, setup_questions, calls_of, answers_in, Started, CarriedOut}
+use Rattle.kit.specs.Plays.{nothing_yet, one_more, PlayedFrom, Plays, AnsweredFrom, PlaysTurns}
 use Rattle.kit.specs.Runs.{LeadsTo, GoesOn}
+use Rattle.kit.specs.declared.play.Turn.{Turn}
 use Rattle.kit.specs.declared.running.Running.{Running}
 use Rattle.kit.proofs.Empty.{nothing_in}
 use Rattle.kit.proofs.Runs.{begins, kept_of}
@@ -75,26 +80,79 @@ may_begin n p limit count words passed =
       made.1,
     )
 
-module _ {L : Type 0} (limit : L → ℕ) (waiting : L → Bag Message) (joins : L → Message → Result (Unit {0}) Fault → L → Type 0) (chooses : L → ℕ → Option Message → L → Type 0) where
-  pub none_played : (s : Running L) (answers : List (Result Answer Fault)) → answers ≡ [] → PlayedFrom limit waiting joins chooses s [] answers s
-  none_played s answers none = record { history = []; calls_are = refl; answers_are = sym none; carried_out = nothing_yet }
+-- the turns behind the one at place i stay as they were
+pub others_stay : (before now : List Turn) (i : ℕ) (turn : Turn) → drop i now ≡ drop i before →
+    drop (i + 1) (set now i turn) ≡ drop (i + 1) before
+others_stay before now i turn rest = drop-set-lt (i + 1) now i turn (omega arith) ∙ drop_more_same now before i rest
 
-  pub one_more_played : (s t u : Running L) (calls : List Call) (i : ℕ) (none : Call) (answers after : List (Result Answer Fault)) (answer : Result Answer Fault) → i < length calls →
-      PlayedFrom limit waiting joins chooses s (take i calls) answers t → GoesOn limit waiting joins chooses (get_or calls i none) answer t u → after ≡ answers ++ answer ∷ [] →
-      PlayedFrom limit waiting joins chooses s (take (i + 1) calls) after u
-  one_more_played s t u calls i none answers after answer lt played on pushed = record {
-    history = played.history ++ record { call = get_or calls i none; answer = answer; posted = on.posted } ∷ [];
-    calls_are = map-append (λ e. e.call) played.history _ ∙ ap (λ x. x ++ get_or calls i none ∷ []) played.calls_are ∙ sym (take_more calls i none lt);
-    answers_are = map-append (λ e. e.answer) played.history _ ∙ ap (λ x. x ++ answer ∷ []) played.answers_are ∙ sym pushed;
-    carried_out = one_more (get_or calls i none) answer played.carried_out on;
+module _ {L : Type 0} (limit : L → ℕ) (waiting : L → Bag Message) (joins : L → Message → Result (Unit {0}) Fault → L → Type 0) (chooses : L → ℕ → Option Message → L → Type 0) where
+  one_more_played : (s t u : Running L) (calls : List Call) (answers : List (Result Answer Fault)) (call : Call)
+      (answer : Result Answer Fault) → PlayedFrom limit waiting joins chooses s calls answers t →
+      GoesOn limit waiting joins chooses call answer t u →
+      PlayedFrom limit waiting joins chooses s (calls ++ call ∷ []) (answers ++ answer ∷ []) u
+  one_more_played s t u calls answers call answer played on = record {
+    history = played.history ++ record { call = call; answer = answer; posted = on.posted } ∷ [];
+    calls_are = map-append (λ e. e.call) played.history _ ∙ ap (λ x. x ++ call ∷ []) played.calls_are;
+    answers_are = map-append (λ e. e.answer) played.history _ ∙ ap (λ x. x ++ answer ∷ []) played.answers_are;
+    carried_out = one_more call answer played.carried_out on;
   }
+
+  -- no turn has its answer yet
+  pub none_answered : (s : Running L) (before : List Turn) →
+      AnsweredFrom limit waiting joins chooses s (take 0 before) (take 0 before) s
+  none_answered s before = (
+    [],
+    record { same_calls = refl; answers_are = refl },
+    record { history = []; calls_are = refl; answers_are = refl; carried_out = nothing_yet },
+  )
+
+  -- a turn that has its answer
+  answer_of : (call : Call) (t u : Running L) (given : Option (Result Answer Fault)) →
+      IsSomeAnd given (λ answer. GoesOn limit waiting joins chooses call answer t u) →
+      (answer : Result Answer Fault) × (given ≡ Some answer) × GoesOn limit waiting joins chooses call answer t u
+  answer_of call t u None none = absurd none
+  answer_of call t u (Some answer) on = (answer, refl, on)
+
+  -- the turn at place i is given its answer; those from there on are as they were
+  pub one_more_answered : (s t u : Running L) (before now : List Turn) (i : ℕ) (none turn : Turn) →
+      i < length now → length before ≡ length now → drop i now ≡ drop i before →
+      AnsweredFrom limit waiting joins chooses s (take i before) (take i now) t → turn.call ≡ (get_or now i none).call →
+      IsSomeAnd turn.answer (λ answer. GoesOn limit waiting joins chooses (get_or now i none).call answer t u) →
+      AnsweredFrom limit waiting joins chooses s (take (i + 1) before) (take (i + 1) (set now i turn)) u
+  one_more_answered s t u before now i none turn lt long rest (answers, answered, played) same_call given =
+      let here = get_or now i none in
+      let (answer, is, on) = answer_of here.call t u turn.answer given in
+      let more = take_more_set now i turn lt in
+      let same : get_or before i none ≡ here =
+      sym (get_or_drop_0 before) ∙ ap (λ x. get_or x 0 none) (sym rest) ∙ get_or_drop_0 now in
+      let was : calls_of (take (i + 1) before) ≡ calls_of (take i before) ++ here.call ∷ [] =
+      ap calls_of (take_more before i none (omega (arith, long))) ∙ map-append (λ x. x.call) (take i before) _
+      ∙ ap (λ (x : Turn). calls_of (take i before) ++ x.call ∷ []) same in (
+        answers ++ answer ∷ [],
+        record {
+          same_calls =
+              ap calls_of more ∙ map-append (λ x. x.call) (take i now) _
+              ∙ ap (λ x. x ++ turn.call ∷ []) answered.same_calls
+              ∙ ap (λ x. calls_of (take i before) ++ x ∷ []) same_call ∙ sym was;
+          answers_are =
+              ap answers_in more ∙ map-append (λ x. x.answer) (take i now) _
+              ∙ ap (λ x. x ++ turn.answer ∷ []) answered.answers_are ∙ ap (λ x. map Some answers ++ x ∷ []) is
+              ∙ sym (map-append Some answers (answer ∷ []));
+        },
+        subst (λ x. PlayedFrom limit waiting joins chooses s x (answers ++ answer ∷ []) u) (sym was)
+            (one_more_played s t u (calls_of (take i before)) answers here.call answer played on),
+      )
+    where
+      get_or_drop_0 : (xs : List Turn) → get_or (drop i xs) 0 none ≡ get_or xs i none
+      get_or_drop_0 xs = get_or-drop i xs 0 none ∙ (let e : i + 0 ≡ i = omega arith in ap (λ k. get_or xs k none) e)
 
   leads_on : (n p first_limit : ℕ) (placements : List Placement) → MayBegin n p first_limit placements → {s r : Running L} {h : History} → LeadsTo limit waiting n p first_limit placements [] s → CarriedOut limit waiting joins chooses s h r →
       LeadsTo limit waiting n p first_limit placements h r
   leads_on n p first_limit placements may leads nothing_yet = leads
   leads_on n p first_limit placements may leads (one_more {h} call answer carried on) = (on.kept n p first_limit placements may h (leads_on n p first_limit placements may leads carried)).leads
 
-  pub plays : (n p : ℕ) (link : L) (words : List Placement) (calls : List Call) (answers : List (Result Answer Fault)) (s r : Running L) → first_no (setup_questions n p (limit link) (size (waiting link)) words) ≡ None →
+  plays : (n p : ℕ) (link : L) (words : List Placement) (calls : List Call) (answers : List (Result Answer Fault))
+      (s r : Running L) → first_no (setup_questions n p (limit link) (size (waiting link)) words) ≡ None →
       Started n p link words s → PlayedFrom limit waiting joins chooses s calls answers r → Plays limit waiting joins chooses n p link words calls answers r
   plays n p link words calls answers s r passed started played =
       let may = may_begin n p (limit link) (size (waiting link)) words passed in
@@ -106,3 +164,10 @@ module _ {L : Type 0} (limit : L → ℕ) (waiting : L → Bag Message) (joins :
         played = played;
         kept = kept_of limit waiting n p (limit link) (reverse words) may.0 played.history r (leads_on n p (limit link) (reverse words) may.0 leads played.carried_out);
       }
+
+  pub plays_turns : (n p : ℕ) (link : L) (words : List Placement) (before after : List Turn) (s r : Running L) →
+      first_no (setup_questions n p (limit link) (size (waiting link)) words) ≡ None → Started n p link words s →
+      AnsweredFrom limit waiting joins chooses s before after r →
+      PlaysTurns limit waiting joins chooses n p link words before after r
+  plays_turns n p link words before after s r passed started (answers, answered, played) =
+      (answers, answered, plays n p link words (calls_of before) answers s r passed started played)

@@ -157,12 +157,22 @@ module _ {L : Type 0} (limit : L → ℕ) (waiting : L → Bag Message) where
           (record { posted = []; does = does; link = (u, chosen, link); opened = opened; unchanged = λ e. absurd (no_answer fault e); kept = keeps (record { call = Deliver pick; answer = Err fault; posted = [] }) r t does opened })
 
     -- nothing waits
-    pub quiet : (pick : ℕ) (r t : Running L) → waiting r.link ≡ empty → chooses r.link pick None t.link → t ≡ r →
+    pub quiet : (pick : ℕ) (r t : Running L) → Taken limit waiting r.link None t.link →
+        chooses r.link pick None t.link → kit_of t.cluster ≡ kit_of r.cluster →
+        t.opened ≡ r.opened → (t.link ≡ r.link → t ≡ r) →
         GoesOn limit waiting joins chooses (Deliver pick) (Ok Quiet) r t
-    quiet pick r t none chosen same =
-        let does = inl (none, refl, refl, ap (running_of limit waiting) same) in
-        let opened = ap (λ x. x.opened) same in
-        record { posted = []; does = does; link = chosen; opened = opened; unchanged = λ e. same; kept = keeps (record { call = Deliver pick; answer = Ok Quiet; posted = [] }) r t does opened }
+    quiet pick r t taken chosen kit opened whole =
+        let same : running_of limit waiting t ≡ running_of limit waiting r =
+        rw (kit, taken.0.0, taken.1.0, taken.2) refl in
+        let does = inl (taken.0.0, refl, refl, same) in
+        record {
+          posted = [];
+          does = does;
+          link = chosen;
+          opened = opened;
+          unchanged = λ e. record { running = same; opened = opened; whole = whole };
+          kept = keeps (record { call = Deliver pick; answer = Ok Quiet; posted = [] }) r t does opened;
+        }
 
   -- a kit just started
   pub begins : (n p first_limit : ℕ) (placements : List Placement) (r : Running L) → kit_of r.cluster ≡ after_placing n p placements → limit r.link ≡ first_limit → waiting r.link ≡ empty → r.opened ≡ 0 →

@@ -1,16 +1,23 @@
 -- The worked cases hold.
-use Rattle.std.proofs.Common.{◌≡◌, ℕ, [], ◌∷◌, Some, None, Ok, Err, Option, Result, refl, ap, ◌∙◌, arith}
+use Rattle.std.proofs.Common.{◌≡◌, ℕ, ◌<◌, [], ◌∷◌, Some, None, Ok, Err, Option, Result, refl, ap, ◌∙◌, sym, subst}
+use Rattle.std.proofs.Common.{arith}
 use Rattle.std.proofs.lemmas.Bool.Decides.{nat_tests}
 use Rattle.wire.specs.Bags.{Bag, size}
-use Rattle.wire.specs.Questions.{refusal}
+use Rattle.wire.specs.Questions.{first_no, refusal}
 use Rattle.wire.specs.Links.{Posted, Taken}
 use Rattle.wire.specs.declared.fault.Fault.{Fault}
 use Rattle.wire.specs.declared.message.Message.{Message}
 use Rattle.records.proofs.Asking.{other_length}
 use Rattle.records.proofs.Damages.{other_kind, other_hops, used_byte}
 use Rattle.records.proofs.WorkedRecords.{record_accepted}
+use Rattle.memory.specs.Ledgers.{ledger}
+use Rattle.memory.specs.Placements.{array}
+use Rattle.memory.specs.Reached.{begun, Reached, started}
+use Rattle.memory.specs.Willing.{questions}
+use Rattle.memory.specs.declared.call.Call.{Call}
 use Rattle.memory.specs.declared.call.Call.TheVariants.{Load, Store, Deliver}
-use Rattle.kit.specs.WorkedCases.{Post, Take, WorkedCases}
+use Rattle.kit.specs.Runs.{LeadsTo}
+use Rattle.kit.specs.WorkedCases.{Post, Take, FirstCall, WorkedCases}
 use Rattle.kit.proofs.Forced.{played}
 
 module _ {L : Type 0} (limit : L → ℕ) (waiting : L → Bag Message) where
@@ -37,20 +44,39 @@ module _ {L : Type 0} (limit : L → ℕ) (waiting : L → Bag Message) where
       let s = passes d e third.message third.answer r.1 r.0 third.posted in
       (p.0, q.0, s.0)
 
-  says_nothing : (s t : L) (r : Option Message) → size (waiting s) ≡ 0 → Taken limit waiting s r t → (r ≡ None) × (t ≡ s)
-  says_nothing s t None e p = (refl, p.1)
+  says_nothing : (s t : L) (r : Option Message) → size (waiting s) ≡ 0 → Taken limit waiting s r t →
+      (r ≡ None) × (size (waiting t) ≡ 0) × (limit t ≡ limit s)
+  says_nothing s t None e p = (refl, p.1.1 (λ _. 1), p.2)
   says_nothing s t (Some m) e p = absurd (omega (arith, p.0.1 (λ _. 1)))
 
-  nothing_waits : (a b : L) → size (waiting a) ≡ 0 → (take : Take limit waiting a b) → (take.answer ≡ None) × (b ≡ a)
+  nothing_waits : (a b : L) → size (waiting a) ≡ 0 → (take : Take limit waiting a b) →
+      (take.answer ≡ None) × (size (waiting b) ≡ 0) × (limit b ≡ limit a)
   nothing_waits a b z take = says_nothing a b take.answer z take.taken
 
 module _ {L : Type 0} (limit : L → ℕ) (waiting : L → Bag Message) (joins : L → Message → Result (Unit {0}) Fault → L → Type 0) (chooses : L → ℕ → Option Message → L → Type 0) where
+  -- what a first call is asked
+  first_call : (n board : ℕ) (call : Call) (refused : Option ℕ) →
+      (board < n → first_no (questions n 16 (ledger (array []) []) call) ≡ refused) →
+      FirstCall limit waiting joins chooses n board call refused
+  first_call n board call refused asks r t answer k inside on =
+      let at : LeadsTo limit waiting n 16 k.first_limit [] [] r =
+      record {
+        reached = subst (λ s. Reached (begun n 16 k.first_limit []) [] s) (sym k.begins) started;
+        opened = k.none_opened;
+      } in
+      let kept = on.kept n 16 k.first_limit [] k.may_begin [] at in
+      (kept.willing [] (record { call = call; answer = answer; posted = on.posted }) [] refl).asked ∙ asks inside
+
   pub worked_cases : WorkedCases limit waiting joins chooses
   worked_cases = record {
     limit_too_low = refl;
     limit_enough = refl;
     last_address = refl;
     past_address = refl;
+    loads_last = λ n board. first_call n board (Load board 255) None (λ h. grind (arith, nat_tests));
+    loads_past = λ n board. first_call n board (Load board 256) (Some 2) (λ h. grind (arith, nat_tests));
+    stores_last = λ n board word. first_call n board (Store board 255 word) None (λ h. grind (arith, nat_tests));
+    stores_past = λ n board word. first_call n board (Store board 256 word) (Some 2) (λ h. grind (arith, nat_tests));
     one_byte_short = λ bs l. other_length bs (omega arith);
     one_byte_over = λ bs l. other_length bs (omega arith);
     accepted = record_accepted;

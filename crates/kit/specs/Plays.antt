@@ -1,8 +1,7 @@
 -- What a kit that plays a list of calls promises, whatever it is given.
-use Rattle.std.specs.Prelude.{◌≡◌, ℕ, Bool, List, [], ◌∷◌, ◌++◌, map, reverse, Some, None, Ok, Err, Option, Result}
+use Rattle.std.specs.Prelude.{◌≡◌, ℕ, Bool, List, [], ◌∷◌, ◌++◌, map, reverse, Some, Option, Result}
 use Rattle.std.specs.List.{flat_map}
 use Rattle.wire.specs.Bags.{Bag}
-use Rattle.wire.specs.Faults.{number}
 use Rattle.wire.specs.declared.fault.Fault.{Fault}
 use Rattle.wire.specs.declared.message.Message.{Message}
 use Rattle.memory.specs.Histories.{History}
@@ -13,8 +12,7 @@ use Rattle.memory.specs.declared.call.Call.{Call}
 use Rattle.memory.specs.declared.placement.Placement.{Placement}
 use Rattle.kit.specs.KitQuestions.{making_questions, place_questions}
 use Rattle.kit.specs.Runs.{running_kit, running_link, opened_count, Kept, GoesOn}
-use Rattle.kit.specs.declared.play.NotPlayed.{NotPlayed}
-use Rattle.kit.specs.declared.play.NotPlayed.TheVariants.{Refused, NoMemory}
+use Rattle.kit.specs.declared.play.Turn.{Turn}
 use Rattle.kit.specs.declared.running.Running.{Running}
 
 -- what is asked of words, in their order
@@ -25,11 +23,17 @@ placing_questions p words = flat_map (λ w. place_questions p w.address) words
 abbrev pub setup_questions : ℕ → ℕ → ℕ → ℕ → List Placement → List (ℕ × Bool)
 setup_questions n p limit count words = making_questions n p limit count ++ placing_questions p words
 
--- the number that the setup is refused with; a want of memory is no refusal
-abbrev pub setup_refusal : {T : Type 0} → Result T NotPlayed → Option ℕ
-setup_refusal (Ok x) = None
-setup_refusal (Err (Refused fault)) = Some (number fault)
-setup_refusal (Err (NoMemory error)) = None
+-- the calls of turns, and the places for their answers
+abbrev pub calls_of : List Turn → List Call
+calls_of turns = map (λ t. t.call) turns
+
+abbrev pub answers_in : List Turn → List (Option (Result Answer Fault))
+answers_in turns = map (λ t. t.answer) turns
+
+-- each turn has the call that it had, and its answer
+pub record Answered (before after : List Turn) (answers : List (Result Answer Fault)) : Type 0 where
+  pub same_calls : calls_of after ≡ calls_of before
+  pub answers_are : answers_in after ≡ map Some answers
 
 -- a kit of n boards and p pages over this link, started with these words
 pub record Started {L : Type 0} (n p : ℕ) (link : L) (words : List Placement) (r : Running L) : Type 0 where
@@ -58,3 +62,14 @@ module _ {L : Type 0} (limit : L → ℕ) (waiting : L → Bag Message) (joins :
     pub started : Started n p link words start
     pub played : PlayedFrom start calls answers r
     pub kept : Kept limit waiting n p (limit link) (reverse words) played.history r
+
+  -- the same of turns, each of which has its answer afterwards
+  abbrev pub AnsweredFrom : Running L → List Turn → List Turn → Running L → Type 0
+  AnsweredFrom start before after r =
+      (answers : List (Result Answer Fault)) × Answered before after answers
+      × PlayedFrom start (calls_of before) answers r
+
+  abbrev pub PlaysTurns : ℕ → ℕ → L → List Placement → List Turn → List Turn → Running L → Type 0
+  PlaysTurns n p link words before after r =
+      (answers : List (Result Answer Fault)) × Answered before after answers
+      × Plays n p link words (calls_of before) answers r

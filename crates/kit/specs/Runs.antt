@@ -23,12 +23,6 @@ use Rattle.kit.specs.Clusters.{kit_of, over}
 use Rattle.kit.specs.OpenedCount.{openings, counted, opened_after}
 use Rattle.kit.specs.declared.running.Running.{Running}
 
--- a load or a store that is refused changes nothing, and no more does a quiet delivery
-abbrev pub NothingChanges : {K : Type 0} → Call → Result Answer Fault → K → K → Type 0
-NothingChanges (Load board address) answer before after = OnErr answer (after ≡ before)
-NothingChanges (Store board address word) answer before after = OnErr answer (after ≡ before)
-NothingChanges (Deliver pick) answer before after = answer ≡ Ok Quiet → after ≡ before
-
 -- a running kit's boards, its link, and how many accesses it has opened
 abbrev pub running_kit : {L : Type 0} → Running L → Kit
 running_kit r = kit_of r.cluster
@@ -42,6 +36,18 @@ opened_count r = r.opened
 module _ {L : Type 0} (limit : L → ℕ) (waiting : L → Bag Message) where
   abbrev pub running_of : Running L → calls.Running
   running_of r = over (running_kit r) (limit (running_link r)) (waiting (running_link r))
+
+  -- the boards, the meaning of the link and the count are as they were; where the link itself is, so is the whole kit
+  pub record MeansTheSame (before after : Running L) : Type 0 where
+    pub running : running_of after ≡ running_of before
+    pub opened : opened_count after ≡ opened_count before
+    pub whole : running_link after ≡ running_link before → after ≡ before
+
+  -- a load or a store that is refused changes nothing, and a quiet delivery nothing but what the link keeps to itself
+  abbrev pub NothingChanges : Call → Result Answer Fault → Running L → Running L → Type 0
+  NothingChanges (Load board address) answer before after = OnErr answer (after ≡ before)
+  NothingChanges (Store board address word) answer before after = OnErr answer (after ≡ before)
+  NothingChanges (Deliver pick) answer before after = answer ≡ Ok Quiet → MeansTheSame before after
 
   -- a history of a kit that began so leads to r
   pub record LeadsTo (n p first_limit : ℕ) (placements : List Placement) (history : History) (r : Running L) : Type 0 where
@@ -70,7 +76,7 @@ module _ {L : Type 0} (limit : L → ℕ) (waiting : L → Bag Message) (joins :
     pub does : DoesCall call (running_of limit waiting r) answer posted (running_of limit waiting t)
     pub link : LinkDoes call (running_of limit waiting r) answer posted (running_of limit waiting t) does (running_link r) (running_link t)
     pub opened : opened_count t ≡ opened_after (opened_count r) answer
-    pub unchanged : NothingChanges call answer r t
+    pub unchanged : NothingChanges limit waiting call answer r t
     -- every history that led to r leads to t with this call, and is one memory
     pub kept : (n p first_limit : ℕ) (placements : List Placement) → MayBegin n p first_limit placements → (history : History) → LeadsTo limit waiting n p first_limit placements history r →
         Kept limit waiting n p first_limit placements (history ++ record { call = call; answer = answer; posted = posted } ∷ []) t

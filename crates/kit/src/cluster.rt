@@ -1,5 +1,6 @@
 ghost use Rattle.std.specs.Prelude.{◌≡◌, MatchResult};
 ghost use Rattle.wire.specs.Questions.{refusal, first_no};
+ghost use Rattle.lone.specs.Sizes.{size_boards, size_pages};
 ghost use Rattle.memory.specs.Kits.{start_kit};
 ghost use Rattle.memory.specs.Placements.{placed};
 ghost use Rattle.kit.specs.Clusters.{kit_of};
@@ -23,7 +24,7 @@ pub struct Cluster {
 impl Cluster {
     /// The boards of a kit as it starts.
     pub(crate) fn start(size: Size) -> Cluster
-        ensures { kit_of result ≡ start_kit size.boards size.pages }
+        ensures { kit_of result ≡ start_kit (size_boards size) (size_pages size) }
     {
         Cluster {
             size,

@@ -1,50 +1,32 @@
-ghost use Rattle.std.specs.Prelude.{◌≡◌, ℕ, reverse, IfOk};
+ghost use Rattle.std.specs.Prelude.{◌≡◌, ℕ, None, reverse, IsSomeAnd, IfOk, MatchResult};
 ghost use Rattle.wire.specs.Bags.{size};
 ghost use Rattle.wire.specs.Questions.{refusal, first_no};
 ghost use Rattle.memory.specs.Kits.{start_kit};
 ghost use Rattle.memory.specs.Placements.{after_placing};
 ghost use Rattle.kit.specs.Loadings.{loading_kit, loading_link};
-ghost use Rattle.kit.specs.Plays.{placing_questions, setup_questions, setup_refusal, Started, PlayedFrom, Plays};
-ghost use Rattle.kit.specs.declared.play.NotPlayed.TheVariants.{Refused, NoMemory};
+ghost use Rattle.kit.specs.Plays.{placing_questions, setup_questions, Started, AnsweredFrom, PlaysTurns};
+ghost use Rattle.kit.specs.Runs.{GoesOn};
 
 use crate::loading::Loading;
 use crate::running::Running;
 use memory::answer::Answer;
 use memory::call::Call;
 use memory::placement::Placement;
-use std::alloc::{AllocError, Global};
 use wire::fault::Fault;
 use wire::link::Link;
 
-/// A kit that has played a list of calls, and what it answered to each.
-#[derive(Drop)]
-pub struct Played<L> {
-    pub kit: Running<L>,
-    pub answers: Vec<Result<Answer, Fault>>,
-}
-
-/// Why nothing was played.
+/// A call, and the place for the answer to it.
 #[derive(Clone, Copy, PartialEq, Eq, Debug)]
-pub enum NotPlayed {
-    /// The kit could not be made, or a word not be placed.
-    Refused(Fault),
-    /// There was no memory for the answers.
-    NoMemory(AllocError),
+pub struct Turn {
+    pub call: Call,
+    pub answer: Option<Result<Answer, Fault>>,
 }
 
-impl From<Fault> for NotPlayed {
-    ghost from_gives = { λ fault reason. reason ≡ Refused fault };
+impl From<Call> for Turn {
+    ghost from_gives = { λ call turn. turn ≡ record { call = call; answer = None } };
 
-    fn from(fault: Fault) -> NotPlayed {
-        NotPlayed::Refused(fault)
-    }
-}
-
-impl From<AllocError> for NotPlayed {
-    ghost from_gives = { λ error reason. reason ≡ NoMemory error };
-
-    fn from(error: AllocError) -> NotPlayed {
-        NotPlayed::NoMemory(error)
+    fn from(call: Call) -> Turn {
+        Turn { call, answer: None }
     }
 }
 
@@ -75,34 +57,41 @@ fn begin<L: Link + Drop>(
     Ok(kit.start())
 }
 
-/// Carries out calls, one after another. Memory for the answers is asked for before the first.
-fn call_all<L: Link>(
-    heap: Global,
-    kit: &mut Running<L>,
-    calls: &[Call],
-) -> Result<Vec<Result<Answer, Fault>>, AllocError>
-    ensures { IfOk result (λ answers. PlayedFrom L.Link.limit L.waiting L.Choice.joins L.Choice.chooses kit.old calls.now answers.items kit.new) }
+/// Carries out the call of a turn, and puts the answer in its place.
+fn carry_out<L: Link>(kit: &mut Running<L>, turn: &mut Turn)
+    ensures call { turn.new.call ≡ turn.old.call }
+    ensures answer { IsSomeAnd turn.new.answer
+        (λ answer. GoesOn L.Link.limit L.waiting L.Choice.joins L.Choice.chooses turn.old.call answer kit.old kit.new) }
 {
-    let mut answers = Vec::with_capacity(heap, calls.len())?;
-    for call in calls {
-        answers.push(kit.call(*call)).unwrap();
-    }
-    Ok(answers)
+    turn.answer = Some(kit.call(turn.call));
 }
 
-/// Makes a kit over an empty link, places words, starts it and plays a list of calls. Memory for the answers is asked for before anything is played.
+/// Carries out the calls of turns, one after another.
+fn call_all<L: Link>(kit: &mut Running<L>, turns: &mut [Turn])
+    ensures { AnsweredFrom L.Link.limit L.waiting L.Choice.joins L.Choice.chooses kit.old turns.old turns.new kit.new }
+{
+    for turn in turns.iter_mut() {
+        carry_out(kit, turn);
+    }
+}
+
+/// Makes a kit over an empty link, places words, starts it, and plays turns: each is given the answer to its call. What
+/// stood in the places for the answers does not count. Where it is refused, the turns are left as they were.
 pub fn play<L: Link + Drop>(
-    heap: Global,
     link: L,
     boards: u8,
     pages: u32,
     words: &[Placement],
-    calls: &[Call],
-) -> Result<Played<L>, NotPlayed>
-    ensures refused { setup_refusal result ≡ first_no (setup_questions boards pages (L.limit link) (size (L.waiting link)) words.now) }
-    ensures played { IfOk result (λ played. Plays L.Link.limit L.waiting L.Choice.joins L.Choice.chooses boards pages link words.now calls.now played.answers.items played.kit) }
+    turns: &mut [Turn],
+) -> Result<Running<L>, Fault>
+    ensures refused { refusal result
+        ≡ first_no (setup_questions boards pages (L.limit link) (size (L.waiting link)) words.now) }
+    ensures played { MatchResult result
+        (λ kit. PlaysTurns L.Link.limit L.waiting L.Choice.joins L.Choice.chooses
+        boards pages link words.now turns.old turns.new kit)
+        (λ _. turns.new ≡ turns.old) }
 {
     let mut kit = begin(link, boards, pages, words)?;
-    let answers = call_all(heap, &mut kit, calls)?;
-    Ok(Played { kit, answers })
+    call_all(&mut kit, turns);
+    Ok(kit)
 }

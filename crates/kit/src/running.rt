@@ -1,3 +1,5 @@
+ghost use Rattle.std.specs.Prelude.{◌≡◌, length};
+ghost use Rattle.board.specs.Outboxes.{posts};
 ghost use Rattle.kit.specs.Clusters.{kit_of};
 ghost use Rattle.kit.specs.Forms.{KitForm};
 
@@ -14,12 +16,15 @@ use wire::link::Link;
 pub struct Running<L> {
     cluster: Cluster,
     link: L,
+    // Empty between calls: it is kept only because making one anew takes time.
+    out: Outbox,
     opened: u32,
     ghost forms: { KitForm (kit_of cluster) },
+    ghost sent: { length (posts out) ≡ 0 },
 }
 
 impl<L: Link> Running<L> {
-    ghost use Rattle.std.specs.Prelude.{◌≡◌, ◌+◌, Ok};
+    ghost use Rattle.std.specs.Prelude.{◌+◌, Ok};
     ghost use Rattle.memory.specs.declared.answer.Answer.TheVariants.{Accessed};
     ghost use Rattle.memory.specs.declared.call.Call.TheVariants.{Load, Store, Deliver};
     ghost use Rattle.kit.specs.KitAnswers.{accessed, delivered};
@@ -36,35 +41,37 @@ impl<L: Link> Running<L> {
         Running {
             cluster,
             link,
+            out: Outbox::new(),
             opened: 0,
         }
     }
 
     /// A board loads the word at an address, or opens the load.
+    #[tactic(auto, using(std::proofs::lemmas::List::nil_from_length))]
     pub fn load(&mut self, board: u8, address: u32) -> Result<AccessAnswer, Fault>
         ensures { GoesOn L.Link.limit L.waiting L.Choice.joins L.Choice.chooses (Load board address) (accessed result) self.old self.new }
     {
         self.cluster.ask_access(board, address, &self.link)?;
-        let mut out = Outbox::new();
-        let answer = self.cluster.load(board, address, &mut out);
-        out.send(&mut self.link)?;
+        let answer = self.cluster.load(board, address, &mut self.out);
+        self.out.send(&mut self.link)?;
         self.count(answer);
         Ok(answer)
     }
 
     /// A board stores a word at an address, or opens the store.
+    #[tactic(auto, using(std::proofs::lemmas::List::nil_from_length))]
     pub fn store(&mut self, board: u8, address: u32, word: u32) -> Result<AccessAnswer, Fault>
         ensures { GoesOn L.Link.limit L.waiting L.Choice.joins L.Choice.chooses (Store board address word) (accessed result) self.old self.new }
     {
         self.cluster.ask_access(board, address, &self.link)?;
-        let mut out = Outbox::new();
-        let answer = self.cluster.store(board, address, word, &mut out);
-        out.send(&mut self.link)?;
+        let answer = self.cluster.store(board, address, word, &mut self.out);
+        self.out.send(&mut self.link)?;
         self.count(answer);
         Ok(answer)
     }
 
     /// One of the messages that wait, of the link's choice, arrives at its board. Where none waits the delivery is quiet, and answers `None`.
+    #[tactic(auto, using(std::proofs::lemmas::List::nil_from_length))]
     pub fn deliver(&mut self, pick: u16) -> Result<Option<Arrival>, Fault>
         ensures { GoesOn L.Link.limit L.waiting L.Choice.joins L.Choice.chooses (Deliver pick) (delivered result) self.old self.new }
     {
@@ -72,9 +79,8 @@ impl<L: Link> Running<L> {
             return Ok(None);
         };
         self.cluster.ask_arrival(&message, &self.link)?;
-        let mut out = Outbox::new();
-        let arrival = self.cluster.arrive(&message, &mut out);
-        out.send(&mut self.link)?;
+        let arrival = self.cluster.arrive(&message, &mut self.out);
+        self.out.send(&mut self.link)?;
         Ok(Some(arrival))
     }
 
@@ -107,6 +113,7 @@ impl<L: Link> Running<L> {
     fn count(&mut self, answer: AccessAnswer)
         ensures cluster { self.new.cluster ≡ self.old.cluster }
         ensures link { self.new.link ≡ self.old.link }
+        ensures out { self.new.out ≡ self.old.out }
         ensures opened { self.new.opened ≡ opened_after self.old.opened (Ok (Accessed answer)) }
     {
         match answer {

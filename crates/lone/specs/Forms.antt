@@ -50,14 +50,14 @@ module _ (boards me : ℕ) where
   deferred_form None = true
   deferred_form (Some board) = another board
 
-abbrev pub is_none : List Request → Bool
-is_none [] = true
-is_none (r ∷ rs) = false
+abbrev pub none_wait : List Request → Bool
+none_wait [] = true
+none_wait (r ∷ rs) = false
 
 -- the open access beside the entry of its page: a load is asked where access is none, a store where the page is not owned;
 -- a clearing board owns the page, and awaits some of its copy set; requests wait under an open access alone
 abbrev pub stage_form : Lone → Stage → Bool
-stage_form l Idle = is_none l.state.waiting
+stage_form l Idle = none_wait l.state.waiting
 stage_form l (LoadAsked load) =
     nat_lt (page_of load.address) l.pages && not (reads (entry_at l.table (page_of load.address)).access) && deferred_form l.boards l.state.number load.deferred
 stage_form l (StoreAsked store) =

@@ -1,7 +1,13 @@
 -- A lone board as the rules see it.
 use Rattle.board.specs.Boards.{state_of}
 use Rattle.lone.specs.Lones.{Lone}
+use Rattle.lone.specs.Sizes.{size_boards, size_pages}
 use Rattle.lone.specs.declared.lone_board.LoneBoard.{LoneBoard}
 
 abbrev pub lone_of : LoneBoard → Lone
-lone_of b = record { boards = b.size.boards; pages = b.size.pages; state = state_of b.state; table = b.table.entries }
+lone_of b = record {
+  boards = size_boards b.size;
+  pages = size_pages b.size;
+  state = state_of b.state;
+  table = b.table.entries;
+}

@@ -1,6 +1,14 @@
 -- What a lone board asks.
 use Rattle.std.specs.Prelude.{ℕ, Bool, ◌&&◌, List, [], ◌∷◌, ◌++◌, ◌==◌, nat_lt}
 use Rattle.wire.specs.BoardSets.{is_below}
+use Rattle.wire.specs.Faults.{number}
+use Rattle.wire.specs.declared.fault.Fault.TheVariants.{
+  NoSuchBoard,
+  NoSuchAddress,
+  AccessOpen,
+  DoesNotBelong,
+  NotExpected,
+}
 use Rattle.wire.specs.declared.message.Message.{Message}
 use Rattle.records.specs.Forms.{message_questions}
 use Rattle.board.specs.Expected.{expected}
@@ -11,19 +19,23 @@ use Rattle.lone.specs.Tables.{entry_at}
 
 -- making it: how many boards and pages are there, and is it one of the boards?
 abbrev pub lone_questions : ℕ → ℕ → ℕ → List (ℕ × Bool)
-lone_questions number boards pages = size_questions boards pages ++ (1, nat_lt number boards) ∷ []
+lone_questions me boards pages = size_questions boards pages ++ (number NoSuchBoard, nat_lt me boards) ∷ []
 
 -- a load or a store: is the address below 16 P, and is no access open?
 abbrev pub access_questions : Lone → ℕ → List (ℕ × Bool)
-access_questions l address = (2, has_address l.pages address) ∷ (3, is_idle l.state.stage) ∷ []
+access_questions l address =
+    (number NoSuchAddress, has_address l.pages address) ∷ (number AccessOpen, is_idle l.state.stage) ∷ []
 
 -- a message is addressed here, all boards that it names are below N, and its page is below P
 abbrev pub belongs : Lone → Message → Bool
-belongs l m = m.to == l.state.number && nat_lt m.from l.boards && nat_lt m.asker l.boards && is_below m.copies l.boards && nat_lt m.page l.pages
+belongs l m =
+    m.to == l.state.number && nat_lt m.from l.boards && nat_lt m.asker l.boards && is_below m.copies l.boards
+    && nat_lt m.page l.pages
 
 abbrev pub expects : Lone → Message → Bool
 expects l m = expected l.state (entry_at l.table m.page) m
 
 -- a message that arrives: has it its form, does it belong here, and is it expected?
 abbrev pub arrival_questions : Lone → Message → List (ℕ × Bool)
-arrival_questions l m = message_questions m ++ (15, belongs l m) ∷ (16, expects l m) ∷ []
+arrival_questions l m =
+    message_questions m ++ (number DoesNotBelong, belongs l m) ∷ (number NotExpected, expects l m) ∷ []

@@ -1,5 +1,6 @@
 -- Page tables.
 use Rattle.std.specs.Prelude.{List, [], ℕ, get_or, set, replicate}
+use Rattle.wire.specs.BoardSets.{marked}
 use Rattle.board.specs.Addresses.{page_of, place_of}
 use Rattle.board.specs.Entries.{start_entry, with_word}
 use Rattle.board.specs.declared.entry.PageEntry.{PageEntry}
@@ -10,7 +11,7 @@ start_table number = replicate 16 (start_entry number)
 
 -- what stands past a table
 abbrev pub no_entry : PageEntry
-no_entry = record { access = access.None; hint = 0; copies = record { members = [] }; words = [] }
+no_entry = record { access = access.None; hint = 0; copies = marked []; words = [] }
 
 abbrev pub entry_at : List PageEntry → ℕ → PageEntry
 entry_at es page = get_or es page no_entry

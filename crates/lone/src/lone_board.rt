@@ -1,6 +1,7 @@
 ghost use Rattle.std.specs.Prelude.{◌≡◌, true, length};
 ghost use Rattle.board.specs.Boards.{state_of};
 ghost use Rattle.lone.specs.Forms.{lone_form};
+ghost use Rattle.lone.specs.Sizes.{size_boards, size_pages};
 
 use crate::size::Size;
 use crate::table::PageTable;
@@ -20,7 +21,12 @@ pub struct LoneBoard {
     state: Board,
     table: PageTable,
     ghost rows: { length table.entries ≡ 16 },
-    ghost form: { lone_form (record { boards = size.boards; pages = size.pages; state = state_of state; table = table.entries }) ≡ true },
+    ghost form: { lone_form (record {
+      boards = size_boards size;
+      pages = size_pages size;
+      state = state_of state;
+      table = table.entries;
+    }) ≡ true },
 }
 
 impl LoneBoard {

@@ -27,7 +27,7 @@ brings = record {
   finished = record { board = 1; kind = kind.Load; address = 3; word = 42; hops = 0 };
   before = [];
   store = _;
-  between = _ ∷ _ ∷ [];
+  meanwhile = _ ∷ _ ∷ [];
   finish = _;
   told = refl;
   stores = (refl, refl);

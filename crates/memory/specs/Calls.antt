@@ -1,9 +1,11 @@
 -- What a call does to a running kit: on the board that it is about it does what it does on a board by itself, and the link's choice is all that is left open.
 use Rattle.std.specs.Prelude.{◌≡◌, ℕ, Bool, ◌&&◌, ◌⊎◌, List, [], ◌∷◌, ◌++◌, Ok, Result, MatchResult, nat_lt}
 use Rattle.wire.specs.Bags.{Bag, ◌&◌, ◌⊕◌, empty, size}
+use Rattle.wire.specs.Faults.{number}
 use Rattle.wire.specs.Links.{room_questions}
 use Rattle.wire.specs.Questions.{first_no, refusal}
 use Rattle.wire.specs.declared.fault.Fault.{Fault}
+use Rattle.wire.specs.declared.fault.Fault.TheVariants.{NoSuchBoard, DoesNotBelong, NotExpected}
 use Rattle.wire.specs.declared.message.Message.{Message}
 use Rattle.records.specs.Forms.{message_questions}
 use Rattle.board.specs.Outboxes.{outbox_room}
@@ -28,13 +30,15 @@ room s = room_questions s.limit (size s.waiting) outbox_room
 
 -- a load or a store: is there such a board, does it take the access, and is there room?
 abbrev pub access_questions : Running → ℕ → ℕ → List (ℕ × Bool)
-access_questions s board address = (1, nat_lt board s.kit.boards) ∷ lone.access_questions (board_at s.kit board) address ++ room s
+access_questions s board address =
+    (number NoSuchBoard, nat_lt board s.kit.boards) ∷ lone.access_questions (board_at s.kit board) address ++ room s
 
 -- a message that was taken from the link: has it its form, does it belong to the board that it is addressed to, is it expected there, and is there room?
 abbrev pub arrival_questions : Running → Message → List (ℕ × Bool)
 arrival_questions s m =
     let receiver = board_at s.kit m.to in
-    message_questions m ++ (15, nat_lt m.to s.kit.boards && lone.belongs receiver m) ∷ (16, lone.expects receiver m) ∷ room s
+    message_questions m ++ (number DoesNotBelong, nat_lt m.to s.kit.boards && lone.belongs receiver m)
+    ∷ (number NotExpected, lone.expects receiver m) ∷ room s
 
 -- the first question that is answered no refuses the call, and nothing changes from s
 -- else the board becomes, the call answers, and the messages that join those that wait are, what the outcome has

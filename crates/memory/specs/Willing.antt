@@ -1,8 +1,10 @@
 -- A willing kit: it refuses only what the questions refuse, and is quiet only where nothing waits.
 -- One memory alone is kept by a kit that refuses every call; this is what such a kit breaks.
 use Rattle.std.specs.Prelude.{◌≡◌, ℕ, ◌<◌, Bool, not, List, [], ◌∷◌, ◌++◌, Ok, Err, Result, nat_lt}
+use Rattle.wire.specs.Faults.{number}
 use Rattle.wire.specs.Questions.{first_no, refusal}
 use Rattle.wire.specs.declared.fault.Fault.{Fault}
+use Rattle.wire.specs.declared.fault.Fault.TheVariants.{NoSuchBoard, NoSuchAddress, AccessOpen}
 use Rattle.wire.specs.declared.message.Message.{Message}
 use Rattle.lone.specs.Sizes.{has_address}
 use Rattle.memory.specs.declared.call.Call.{Call}
@@ -15,7 +17,9 @@ use Rattle.memory.specs.Placements.{Words}
 
 -- is there such a board, and such an address, and is no access of that board open?
 abbrev pub questions_of : ℕ → ℕ → Ledger → ℕ → ℕ → List (ℕ × Bool)
-questions_of n p l board address = (1, nat_lt board n) ∷ (2, has_address p address) ∷ (3, not (is_open (l.pending board))) ∷ []
+questions_of n p l board address =
+    (number NoSuchBoard, nat_lt board n) ∷ (number NoSuchAddress, has_address p address)
+    ∷ (number AccessOpen, not (is_open (l.pending board))) ∷ []
 
 -- what a running kit of n boards and p pages asks of a call, all of it known from the history
 abbrev pub questions : ℕ → ℕ → Ledger → Call → List (ℕ × Bool)

@@ -32,9 +32,9 @@ pub record BringsFromAnother (history : History) : Type 0 where
   pub finished : Finished
   pub before : History
   pub store : Event
-  pub between : History
+  pub meanwhile : History
   pub finish : Event
-  pub told : history ≡ before ++ store ∷ between ++ finish ∷ []
+  pub told : history ≡ before ++ store ∷ meanwhile ++ finish ∷ []
   pub stores : StoresAtOnce storer finished.address word store
   pub finishes : Finishes finished finish
   pub loads : finished.kind ≡ kind.Load

@@ -19,19 +19,19 @@ module _ (bs : List ℕ) (accepted : first_no (record_questions bs) ≡ None) wh
   kept place b k h = get_or-set_other bs place k b 0 h
 
   long : (place b : ℕ) → length (set bs place b) ≡ 80
-  long place b = length-set bs place b ∙ (answers bs accepted).length
+  long place b = length-set bs place b ∙ (answers bs accepted).long
 
   -- a kind that there is not
   pub other_kind : (b : ℕ) → inside 1 6 b ≡ false → first_no (record_questions (set bs 0 b)) ≡ Some 11
   other_kind b h =
-      let here : byte (set bs 0 b) 0 ≡ b = get_or-set_same bs 0 b 0 (omega (arith, (answers bs accepted).length)) in
+      let here : byte (set bs 0 b) 0 ≡ b = get_or-set_same bs 0 b 0 (omega (arith, (answers bs accepted).long)) in
       by_answers (set bs 0 b) false _ _ _ (long 0 b) (ap (inside 1 6) here ∙ h) refl refl refl
 
   -- hops over the last
   pub other_hops : (b : ℕ) → 14 < b → first_no (record_questions (set bs 5 b)) ≡ Some 13
   other_hops b h =
       let yes = answers bs accepted in
-      let here : byte (set bs 5 b) 5 ≡ b = get_or-set_same bs 5 b 0 (omega (arith, yes.length)) in
+      let here : byte (set bs 5 b) 5 ≡ b = get_or-set_same bs 5 b 0 (omega (arith, yes.long)) in
       let kind = kept 5 b 0 (omega arith) in
       let page = kept 5 b 1 (omega arith) in
       let from = kept 5 b 2 (omega arith) in
@@ -50,7 +50,7 @@ module _ (bs : List ℕ) (accepted : first_no (record_questions bs) ≡ None) wh
       let to = kept 8 b 3 (omega arith) in
       let asker = kept 8 b 4 (omega arith) in
       let hops = kept 8 b 5 (omega arith) in
-      let behind : drop 8 (set bs 8 b) ≡ b ∷ drop 9 bs = drop-set bs 8 b (omega (arith, yes.length)) in
+      let behind : drop 8 (set bs 8 b) ≡ b ∷ drop 9 bs = drop-set bs 8 b (omega (arith, yes.long)) in
       let first : eqb b 0 ≡ false = ne_eqb b 0 (omega arith) in
       let not-zero : unused_zero (set bs 8 b) ≡ false = ap (λ (xs : List ℕ). all_zero (take 8 xs)) behind ∙ ap (λ (t : Bool). t && all_zero (take 7 (drop 9 bs))) first in
       by_answers (set bs 8 b) true true true false (long 8 b) (ap (inside 1 6) kind ∙ yes.kind) (cc) (cc) (ap (λ (t : Bool). t && kind_form (message_in (set bs 8 b))) not-zero)

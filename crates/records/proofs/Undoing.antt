@@ -115,7 +115,7 @@ written_back m bs small r =
           ∙ ap (λ (n : ℕ). first_no (form_questions n true (message_in bs))) number
           ∙ ap (λ (b : Bool). first_no (form_questions (byte bs 0) b (message_in bs))) (sym yes.unused)
           ∙ yes.form;
-      bytes = bytes_again bs yes.length small (message_in bs).kind (sym number) yes.unused ∙ ap record_of (sym r.message);
+      bytes = bytes_again bs yes.long small (message_in bs).kind (sym number) yes.unused ∙ ap record_of (sym r.message);
     }
 
 wide : (bs : List ℕ) (a n : ℕ) → Bytes bs → word_place (a + n) ≤ length bs → AllByRecursion (λ w. w < 2 ^ 32) (map (λ i. number_at bs (word_place i) 4) (range_with_len a n))
@@ -129,6 +129,6 @@ typed_in bs small l = record { boards = refl; words = refl; wide = wide bs 0 16 
 pub all_records : AllRecords
 all_records bs small e = (
   message_in bs,
-  typed_in bs small (answers bs e).length,
+  typed_in bs small (answers bs e).long,
   written_back (message_in bs) bs small (record { accepted = e; message = refl }),
 )

@@ -1,9 +1,11 @@
 -- The form of a message: what is asked of it before it is written, after it is read, and where it arrives.
 use Rattle.std.specs.Prelude.{◌≡◌, ℕ, Bool, true, false, not, ◌&&◌, ◌⊎◌, List, [], ◌∷◌, Decides, ◌==◌, nat_le, nat_lt}
 use Rattle.wire.specs.BoardSets.{has, is_empty}
+use Rattle.wire.specs.Faults.{number}
 use Rattle.wire.specs.Kinds.{kind_number}
 use Rattle.wire.specs.Messages.{most_hops}
 use Rattle.wire.specs.Questions.{inside}
+use Rattle.wire.specs.declared.fault.Fault.TheVariants.{NoSuchKind, BadParties, PageOrHopsTooLarge, BrokenKindForm}
 use Rattle.wire.specs.declared.message.Kind.{Kind}
 use Rattle.wire.specs.declared.message.Kind.TheVariants.{ReadRequest, WriteRequest, Copy, Grant, Invalidate, Acknowledgement}
 use Rattle.wire.specs.declared.message.Message.{Message}
@@ -51,9 +53,12 @@ form_of Acknowledgement m = carries_nothing m && asked_by_receiver m && no_hops 
 abbrev pub kind_form : Message → Bool
 kind_form m = form_of m.kind m
 
--- The questions 11 to 14, the kind given by its number. In a record 14 also asks that the bytes without a use are zero: blank says so.
+-- The questions 11 to 14, the kind given by its number. In a record 14 also asks that the bytes without a use are zero:
+-- blank says so.
 abbrev pub form_questions : ℕ → Bool → Message → List (ℕ × Bool)
-form_questions kind blank m = (11, inside 1 6 kind) ∷ (12, has_parties m) ∷ (13, in_range m) ∷ (14, blank && kind_form m) ∷ []
+form_questions kind blank m =
+    (number NoSuchKind, inside 1 6 kind) ∷ (number BadParties, has_parties m) ∷ (number PageOrHopsTooLarge, in_range m)
+    ∷ (number BrokenKindForm, blank && kind_form m) ∷ []
 
 abbrev pub message_questions : Message → List (ℕ × Bool)
 message_questions m = form_questions (kind_number m.kind) true m

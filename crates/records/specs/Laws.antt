@@ -1,6 +1,7 @@
 -- Writing and reading undo each other.
 use Rattle.std.specs.Prelude.{◌≡◌, ℕ, ◌^◌, ◌<◌, List, length, None}
 use Rattle.std.specs.List.{AllByRecursion}
+use Rattle.wire.specs.BoardSets.{marks}
 use Rattle.wire.specs.Questions.{first_no}
 use Rattle.wire.specs.declared.message.Message.{Message}
 use Rattle.records.specs.Forms.{message_questions}
@@ -18,7 +19,7 @@ pub record Read (bs : List ℕ) (m : Message) : Type 0 where
 
 -- what the code's types say of a message: sixteen boards that are members or not, and sixteen words of 32 bits
 pub record Typed (m : Message) : Type 0 where
-  pub boards : length m.copies.members ≡ 16
+  pub boards : length (marks m.copies) ≡ 16
   pub words : length m.words ≡ 16
   pub wide : AllByRecursion (λ w. w < 2 ^ 32) m.words
 

@@ -3,7 +3,9 @@ use Rattle.std.specs.Prelude.{ℕ, ◌+◌, ◌*◌, Bool, List, ◌∷◌, ◌+
 use Rattle.std.specs.List.{between, range_with_len, flat_map}
 use Rattle.std.specs.Option.{unwrap_or}
 use Rattle.wire.specs.BoardBits.{set_bits, set_of_bits}
+use Rattle.wire.specs.Faults.{number}
 use Rattle.wire.specs.Kinds.{kind_number, kind_numbered}
+use Rattle.wire.specs.declared.fault.Fault.TheVariants.{WrongLength}
 use Rattle.wire.specs.declared.message.Kind.{Kind}
 use Rattle.wire.specs.declared.message.Kind.TheVariants.{ReadRequest}
 use Rattle.wire.specs.declared.message.Message.{Message}
@@ -51,8 +53,9 @@ unused_zero bs = all_zero (between 8 16 bs)
 
 -- reading asks for 80 bytes, and then of what is in them
 abbrev pub record_questions : List ℕ → List (ℕ × Bool)
-record_questions bs = (10, (length bs == record_length)) ∷ form_questions (byte bs 0) (unused_zero bs) (message_in bs)
+record_questions bs =
+    (number WrongLength, length bs == record_length) ∷ form_questions (byte bs 0) (unused_zero bs) (message_in bs)
 
 -- writing asks for 80 bytes of room, and then of the message
 abbrev pub writing_questions : ℕ → Message → List (ℕ × Bool)
-writing_questions room m = (10, (room == record_length)) ∷ message_questions m
+writing_questions room m = (number WrongLength, room == record_length) ∷ message_questions m

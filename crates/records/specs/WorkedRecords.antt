@@ -1,5 +1,6 @@
 -- Records worked out by hand, which the definitions must agree with.
 use Rattle.std.specs.Prelude.{◌≡◌, ℕ, true, false, List, [], ◌∷◌, ◌++◌, replicate, Some, None}
+use Rattle.wire.specs.BoardSets.{marked}
 use Rattle.wire.specs.Questions.{first_no}
 use Rattle.wire.specs.declared.message.Kind.TheVariants.{Grant}
 use Rattle.wire.specs.declared.message.Message.{Message}
@@ -15,7 +16,7 @@ worked_grant = record {
   to = 6;
   asker = 6;
   hops = 1;
-  copies = record { members = true ∷ false ∷ false ∷ true ∷ replicate 4 false ++ true ∷ replicate 6 false ++ true ∷ [] };
+  copies = marked (true ∷ false ∷ false ∷ true ∷ replicate 4 false ++ true ∷ replicate 6 false ++ true ∷ []);
   words = 0 ∷ 0x01020304 ∷ replicate 14 0;
 }
 

@@ -1,5 +1,6 @@
 ghost use Rattle.std.specs.Prelude.{◌≡◌, ◌+◌, ◌^◌, ◌<◌, ◌≤◌, ◌++◌, length, take, MatchResult};
 ghost use Rattle.std.specs.List.{flat_map, AllByRecursion};
+ghost use Rattle.wire.specs.BoardSets.{marks};
 ghost use Rattle.wire.specs.Questions.{refusal, first_no};
 ghost use Rattle.records.specs.Forms.{page_limit};
 ghost use Rattle.records.specs.Laws.{Read, Written};
@@ -23,7 +24,7 @@ fn put(out: &mut [u8; RECORD_LENGTH], place: usize, bytes: &[u8])
 fn put_head(message: &Message, out: &mut [u8; RECORD_LENGTH])
     requires { message.now.page < page_limit }
     ensures head { take 16 out.new ≡ head_of message.now }
-    ensures boards { length message.now.copies.members ≡ 16 }
+    ensures boards { length (marks message.now.copies) ≡ 16 }
 {
     put(out, 0, &[u8::from(message.kind), message.page as u8]);
     let parties = [message.from, message.to, message.asker, message.hops];

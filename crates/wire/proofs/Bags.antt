@@ -3,8 +3,8 @@ use Rattle.std.proofs.Common.{◌≡◌, ℕ, zero, suc, ◌<◌, List, [], ◌�
 use Rattle.std.specs.List.{remove}
 use Rattle.wire.specs.Bags.{Bag, empty, ◌&◌, either_order, total, size, bag, Adds, Empty}
 
-pub swap : {X : Type 0} (x y : X) (b : Bag X) → x & y & b ≡ y & x & b
-swap x y b = λ i. either_order x y b i
+pub either_way : {X : Type 0} (x y : X) (b : Bag X) → x & y & b ≡ y & x & b
+either_way x y b = λ i. either_order x y b i
 
 pub size_bag : {X : Type 0} (xs : List X) → size (bag xs) ≡ length xs
 size_bag [] = refl
@@ -12,12 +12,13 @@ size_bag (x ∷ xs) = omega (arith, size_bag xs)
 
 pub bag_push : {X : Type 0} (xs : List X) (x : X) → bag (xs ++ x ∷ []) ≡ x & bag xs
 bag_push [] x = refl
-bag_push (y ∷ xs) x = ap (λ b. y & b) (bag_push xs x) ∙ swap y x (bag xs)
+bag_push (y ∷ xs) x = ap (λ b. y & b) (bag_push xs x) ∙ either_way y x (bag xs)
 
 pub bag_removed : {X : Type 0} (xs : List X) (i : ℕ) (d : X) → i < length xs → bag xs ≡ get_or xs i d & bag (remove xs i)
 bag_removed [] i d h = absurd (omega arith)
 bag_removed (x ∷ xs) zero d h = refl
-bag_removed (x ∷ xs) (suc i) d h = ap (λ b. x & b) (bag_removed xs i d (omega arith)) ∙ swap x (get_or xs i d) (bag (remove xs i))
+bag_removed (x ∷ xs) (suc i) d h =
+    ap (λ b. x & b) (bag_removed xs i d (omega arith)) ∙ either_way x (get_or xs i d) (bag (remove xs i))
 
 pub adds : {X : Type 0} {x : X} {b c : Bag X} → c ≡ x & b → Adds x b c
 adds e = (e, λ f. ap (total f) e)

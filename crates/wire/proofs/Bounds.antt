@@ -12,7 +12,7 @@ module _ {L : Type 0} (limit : L → ℕ) (waiting : L → Bag Message) where
   posted_within s t m (Err e) h p = subst (λ (x : L). size (waiting x) ≤ limit x) (sym p.1) h
 
   taken_within : (s t : L) (r : Option Message) → size (waiting s) ≤ limit s → Taken limit waiting s r t → size (waiting t) ≤ limit t
-  taken_within s t None h p = subst (λ (x : L). size (waiting x) ≤ limit x) (sym p.1) h
+  taken_within s t None h p = omega (arith, p.1.1 (λ _. 1))
   taken_within s t (Some m) h p = omega (arith, p.0.1 (λ _. 1), p.1)
 
   pub never_over : NeverOver limit waiting

@@ -5,12 +5,12 @@ use Rattle.wire.specs.Bags.{Bag, ◌&◌, ◌⊕◌, size}
 use Rattle.wire.specs.Links.{Posted, Sent, InTurn}
 use Rattle.wire.specs.declared.fault.Fault.{Fault}
 use Rattle.wire.specs.declared.message.Message.{Message}
-use Rattle.wire.proofs.Bags.{swap}
+use Rattle.wire.proofs.Bags.{either_way}
 
 -- the last of a list beside a bag
 pub last_beside : {X : Type 0} (xs : List X) (x : X) (b : Bag X) → (xs ++ x ∷ []) ⊕ b ≡ x & (xs ⊕ b)
 last_beside [] x b = refl
-last_beside (y ∷ xs) x b = ap (λ c. y & c) (last_beside xs x b) ∙ swap y x (xs ⊕ b)
+last_beside (y ∷ xs) x b = ap (λ c. y & c) (last_beside xs x b) ∙ either_way y x (xs ⊕ b)
 
 pub size_beside : {X : Type 0} (xs : List X) (b : Bag X) → size (xs ⊕ b) ≡ length xs + size b
 size_beside [] b = omega arith

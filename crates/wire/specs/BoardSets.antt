@@ -3,9 +3,16 @@ use Rattle.std.specs.Prelude.{ℕ, Bool, true, false, not, ◌&&◌, ◌||◌, L
 use Rattle.std.specs.List.{list_all, range_with_len}
 use Rattle.wire.specs.declared.board_set.BoardSet.{BoardSet}
 
+-- for each board, whether it is a member
+abbrev pub marks : BoardSet → List Bool
+marks s = s.members
+
+abbrev pub marked : List Bool → BoardSet
+marked bs = record { members = bs }
+
 -- the board is a member
 abbrev pub has : BoardSet → ℕ → Bool
-has s board = slice_index_or s.members board false
+has s board = slice_index_or (marks s) board false
 
 abbrev pub none_of : List Bool → Bool
 none_of [] = true
@@ -13,14 +20,14 @@ none_of (b ∷ bs) = not b && none_of bs
 
 -- no board is a member
 abbrev pub is_empty : BoardSet → Bool
-is_empty s = none_of s.members
+is_empty s = none_of (marks s)
 
 abbrev pub no_boards : BoardSet
-no_boards = record { members = replicate 16 false }
+no_boards = marked (replicate 16 false)
 
 -- the set in which a board is a member or not
 abbrev pub with_mark : BoardSet → ℕ → Bool → BoardSet
-with_mark s board member = record { members = slice_set s.members board member }
+with_mark s board member = marked (slice_set (marks s) board member)
 
 abbrev pub with_member : BoardSet → ℕ → BoardSet
 with_member s board = with_mark s board true
@@ -34,7 +41,7 @@ members s = filter (has s) (range_with_len 0 16)
 
 -- all members have numbers below this
 abbrev pub is_below : BoardSet → ℕ → Bool
-is_below s boards = none_of (drop boards s.members)
+is_below s boards = none_of (drop boards (marks s))
 
 -- all members are members of the other
 abbrev pub is_part : BoardSet → BoardSet → Bool

@@ -8,3 +8,4 @@ pub mod Bags
 pub mod Gaps
 pub mod Rows
 pub mod Links
+pub mod Caps

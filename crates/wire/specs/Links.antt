@@ -2,17 +2,19 @@
 use Rattle.std.specs.Prelude.{◌≡◌, ℕ, ◌+◌, ◌<◌, ◌≤◌, Bool, List, [], ◌∷◌, ◌++◌, length, Some, None, Ok, Err, Option, Result, ◌==◌, nat_le, nat_lt}
 use Rattle.std.specs.List.{insert}
 use Rattle.wire.specs.Bags.{Bag, ◌⊕◌, Adds, Empty, size}
+use Rattle.wire.specs.Faults.{number}
 use Rattle.wire.specs.Questions.{first_no, refusal, inside}
 use Rattle.wire.specs.declared.fault.Fault.{Fault}
+use Rattle.wire.specs.declared.fault.Fault.TheVariants.{LinkNotEmpty, LimitOutOfRange, LinkFull}
 use Rattle.wire.specs.declared.message.Message.{Message}
 
 -- do fewer wait than the limit?
 abbrev pub post_questions : ℕ → ℕ → List (ℕ × Bool)
-post_questions limit count = (9, nat_lt count limit) ∷ []
+post_questions limit count = (number LinkFull, nat_lt count limit) ∷ []
 
 -- are so many places free?
 abbrev pub room_questions : ℕ → ℕ → ℕ → List (ℕ × Bool)
-room_questions limit count places = (9, nat_le (count + places) limit) ∷ []
+room_questions limit count places = (number LinkFull, nat_le (count + places) limit) ∷ []
 
 -- the largest limit that a link or a layer is made with
 abbrev pub largest_limit : ℕ
@@ -20,11 +22,11 @@ largest_limit = 288
 
 -- making a link with a limit: is it in range?
 abbrev pub limit_questions : ℕ → List (ℕ × Bool)
-limit_questions limit = (8, inside 1 largest_limit limit) ∷ []
+limit_questions limit = (number LimitOutOfRange, inside 1 largest_limit limit) ∷ []
 
 -- making a layer over a link on which count messages wait: is it empty? is the limit in range?
 abbrev pub layer_questions : ℕ → ℕ → List (ℕ × Bool)
-layer_questions count limit = (7, (count == 0)) ∷ limit_questions limit
+layer_questions count limit = (number LinkNotEmpty, count == 0) ∷ limit_questions limit
 
 module _ {L : Type 0} (limit : L → ℕ) (waiting : L → Bag Message) where
   -- what a post leaves of s: one message more, or nothing changes
@@ -36,9 +38,10 @@ module _ {L : Type 0} (limit : L → ℕ) (waiting : L → Bag Message) where
   abbrev pub Posted : L → Message → Result (Unit {0}) Fault → L → Type 0
   Posted s m r t = (refusal r ≡ first_no (post_questions (limit s) (size (waiting s)))) × AfterPost s m r t
 
-  -- a message is taken from s, which leaves t: nothing waits, and nothing changes; or one of those that wait leaves, unaltered
+  -- a message is taken from s, which leaves t: nothing waits, before or after; or one of those that wait leaves,
+  -- unaltered. The limit stays
   abbrev pub Taken : L → Option Message → L → Type 0
-  Taken s None t = Empty (waiting s) × (t ≡ s)
+  Taken s None t = Empty (waiting s) × Empty (waiting t) × (limit t ≡ limit s)
   Taken s (Some m) t = Adds m (waiting t) (waiting s) × (limit t ≡ limit s)
 
   -- messages are posted on s, which leaves t: they join those that wait

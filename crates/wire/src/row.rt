@@ -25,13 +25,13 @@ impl<O> Row<O> {
     ghost use Rattle.wire.specs.Bags.{Adds, Empty};
     ghost use Rattle.wire.specs.Questions.{refusal, first_no};
     ghost use Rattle.wire.specs.Links.{limit_questions};
-    ghost use Rattle.wire.specs.Rows.{row, held};
+    ghost use Rattle.wire.specs.Rows.{row, held, row_limit};
 
     /// An empty row on which `limit` messages may wait.
     #[tactic(auto, using(crate::proofs::Bags::empty_bag))]
     pub fn new(limit: u16) -> Result<Row<O>, Fault>
         ensures refused { refusal result ≡ first_no (limit_questions limit) }
-        ensures made { IfOk result (λ s. Empty (held s) × (row s ≡ []) × (s.limit ≡ limit)) }
+        ensures made { IfOk result (λ s. Empty (held s) × (row s ≡ []) × (row_limit s ≡ limit)) }
     {
         ask_limit(limit)?;
         Ok(Row {
@@ -51,7 +51,7 @@ impl<O> Row<O> {
     /// Takes out the message at `place`.
     fn take_at(&mut self, place: usize) -> Message
         requires { place < length (row self.old) }
-        ensures limit { self.new.limit ≡ self.old.limit }
+        ensures limit { row_limit self.new ≡ row_limit self.old }
         ensures chosen { row self.old ≡ insert (row self.new) place result }
         ensures left { Adds result (held self.new) (held self.old) }
     {
@@ -62,18 +62,20 @@ impl<O> Row<O> {
 }
 
 impl<O: Order> Choice for Row<O> {
+    ghost use Rattle.std.specs.Prelude.{IfNone};
     ghost use Rattle.wire.specs.Links.{Joins, Chosen};
     ghost use Rattle.wire.specs.Rows.{row};
 
     ghost joins = { λ s message r after. Joins message r (row s) (row after) };
 
-    ghost chooses = { λ s pick r after. Chosen (O.place pick (length (row s))) r (row s) (row after) };
+    ghost chooses = { λ s pick r after.
+        Chosen (O.place pick (length (row s))) r (row s) (row after) × IfNone r (after ≡ s) };
 }
 
 impl<O: Order> Link for Row<O> {
-    ghost use Rattle.wire.specs.Rows.{held};
+    ghost use Rattle.wire.specs.Rows.{held, row_limit};
 
-    ghost limit = { λ s. s.limit };
+    ghost limit = { λ s. row_limit s };
 
     ghost waiting = { λ s. held s };
 

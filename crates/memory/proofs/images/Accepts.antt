@@ -1,5 +1,5 @@
 -- No message that waits in a kit is refused by its receiver.
-use Rattle.std.proofs.Common.{◌≡◌, ℕ, Bool, true, false, not, cond, ◌&&◌, eqb, nat_lt, List, [], length, Some, None, Option, refl, ap, ◌∙◌, sym, subst, inl, inr, arith}
+use Rattle.std.proofs.Common.{◌≡◌, ℕ, Bool, true, false, not, cond, ◌&&◌, eqb, nat_lt, List, [], length, is_some, Some, None, Option, refl, ap, ◌∙◌, sym, subst, inl, inr, arith}
 use Rattle.std.proofs.lemmas.Bool.{and_parts, and_from, cases_eq, eqb-true, eq-eqb, ne_eqb, not_from_false, true≢false}
 use Rattle.wire.specs.Bags.{Bag, ◌&◌}
 use Rattle.wire.specs.declared.message.Message.{Message}
@@ -7,7 +7,7 @@ use Rattle.wire.specs.declared.message.Kind.{Kind}
 use Rattle.wire.specs.declared.message.Kind.TheVariants.{ReadRequest, WriteRequest, Copy, Grant, Invalidate, Acknowledgement}
 use Rattle.board.specs.Addresses.{page_of}
 use Rattle.board.specs.Boards.{BoardState}
-use Rattle.board.specs.Expected.{expects, expected, waits, new_asker, not_owned, is_some}
+use Rattle.board.specs.Expected.{expects, expected, waits, new_asker, not_owned}
 use Rattle.board.specs.Serving.{owns}
 use Rattle.board.specs.Stages.{is_on}
 use Rattle.board.specs.declared.entry.PageEntry.{PageEntry}

@@ -17,7 +17,7 @@ use Rattle.board.specs.declared.entry.PageEntry.{PageEntry}
 use Rattle.board.specs.declared.request.AccessKind.{AccessKind}
 use Rattle.board.specs.declared.stage.Stage.{Stage}
 use Rattle.board.specs.declared.stage.Stage.TheVariants.{Idle, LoadAsked, StoreAsked, Clearing}
-use Rattle.lone.specs.Forms.{is_none, lone_form, stage_form}
+use Rattle.lone.specs.Forms.{none_wait, lone_form, stage_form}
 use Rattle.lone.specs.LoneQuestions as lone
 use Rattle.lone.specs.Lones.{Lone, after_step}
 use Rattle.lone.specs.PostLaws.{GoodPost}
@@ -121,7 +121,7 @@ module _ {n p : ℕ} {l : specs.Ledger} {s : Running} {w : ℕ} (f : Follows n p
   pub none_waits : st.waiting ≡ []
   none_waits = empty st.waiting (let h : stage_form it Idle ≡ true = rw idle at told.stage in h)
     where
-      empty : (rs : _) → is_none rs ≡ true → rs ≡ []
+      empty : (rs : _) → none_wait rs ≡ true → rs ≡ []
       empty [] h = refl
       empty (r ∷ rs) h = absurd (true≢false (sym h))
 

@@ -4,7 +4,7 @@ use Rattle.std.specs.List.{AllByRecursion as All}
 use mathlib.Core.HLevel.{is_prop→PathP}
 use native.Mathlib.Nat.{ℕ_set}
 use Rattle.wire.specs.Bags.{Bag, empty, ◌&◌, either_order, ◌⊕◌, total, size}
-use Rattle.wire.proofs.Bags.{swap}
+use Rattle.wire.proofs.Bags.{either_way}
 use Rattle.memory.proofs.model.Board.{Mail}
 use Rattle.memory.proofs.model.Kit.{Post, post_all}
 use Rattle.memory.proofs.images.Images.{W, map_bag}
@@ -12,7 +12,7 @@ use Rattle.memory.proofs.images.Sets.{on_page}
 
 beside_add : {X : Type 0} (xs : List X) (x : X) (b : Bag X) → xs ⊕ (x & b) ≡ x & (xs ⊕ b)
 beside_add [] x b = refl
-beside_add (y ∷ xs) x b = ap (λ c. y & c) (beside_add xs x b) ∙ swap y x (xs ⊕ b)
+beside_add (y ∷ xs) x b = ap (λ c. y & c) (beside_add xs x b) ∙ either_way y x (xs ⊕ b)
 
 pub post_all_is : (page : ℕ) (ms : List (Mail W)) (b : Bag (Post W)) → post_all page ms b ≡ map (on_page page) ms ⊕ b
 post_all_is page [] b = refl

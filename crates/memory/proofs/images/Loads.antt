@@ -26,7 +26,7 @@ use Rattle.memory.proofs.kept.EqualMessages.{same_law}
 use Rattle.memory.proofs.model.Board as model
 use Rattle.memory.proofs.model.Calls as history
 use Rattle.memory.proofs.model.Kit as kit
-use Rattle.memory.proofs.model.Page.{is_none}
+use Rattle.memory.proofs.model.Page.{denies}
 use Rattle.memory.proofs.images.Accesses as at
 use Rattle.memory.proofs.images.Follows.{Follows, GoesOn, still, still_follows}
 use Rattle.memory.proofs.images.Images.{W, access_image}
@@ -58,7 +58,7 @@ module _ {n p : ℕ} {l : specs.Ledger} {s : Running} {w : ℕ} (f : Follows n p
   in_range = let h = at.in_page f b address in_board ok in omega (arith, h)
 
   -- answered at once
-  now : is_none ((k.board b).entry page).access ≡ false → Goes (board.answered st e (get_or e.words (place_of address) 0))
+  now : denies ((k.board b).entry page).access ≡ false → Goes (board.answered st e (get_or e.words (place_of address) 0))
   now reads =
       let does = history.loads_now b page in_board (at.shut f b address in_board ok) reads in
       let brings = (does_kept same_law f.kept does).1 in
@@ -92,8 +92,8 @@ module _ {n p : ℕ} {l : specs.Ledger} {s : Running} {w : ℕ} (f : Follows n p
 
   by_access : (a : Kind) → e.access ≡ a → Goes (board.load_with a st e address)
   by_access access.None q = later q
-  by_access access.Read q = now (ap is_none (the_access access.Read q))
-  by_access access.Write q = now (ap is_none (the_access access.Write q))
+  by_access access.Read q = now (ap denies (the_access access.Read q))
+  by_access access.Write q = now (ap denies (the_access access.Write q))
 
   pub goes_on : Goes (board.load st e address)
   goes_on = by_access e.access refl

@@ -28,7 +28,7 @@ use Rattle.memory.proofs.model.Board as model
 use Rattle.memory.proofs.model.Calls as history
 use Rattle.memory.proofs.model.Ledgers as ledgers
 use Rattle.memory.proofs.model.Kit as kit
-use Rattle.memory.proofs.model.Page.{is_none}
+use Rattle.memory.proofs.model.Page.{denies}
 use Rattle.memory.proofs.images.Accesses as at
 use Rattle.memory.proofs.images.Follows.{Follows, GoesOn}
 use Rattle.memory.proofs.images.Images.{W, access_image, entry_image, put_word, post_image}
@@ -49,7 +49,7 @@ use Rattle.memory.proofs.images.Sets.{has_is, nobody_is, empty_is, invalidates_a
 emptied : (c : BoardSet) → length c.members ≡ 16 → sets.is_empty c ≡ true → c.members ≡ replicate 16 false
 emptied c l h = no_member c.members h ∙ ap (λ (x : ℕ). replicate x false) l
 
-readable : (a : Kind) → reads a ≡ true → is_none (access_image a) ≡ false
+readable : (a : Kind) → reads a ≡ true → denies (access_image a) ≡ false
 readable access.None h = absurd (true≢false (sym h))
 readable access.Read h = refl
 readable access.Write h = refl
@@ -102,7 +102,7 @@ module _ {n p : ℕ} {l : specs.Ledger} {s : Running} {w : ℕ} (f : Follows n p
 
   -- answered at once
   abbrev MayStore : Type 0
-  MayStore = (((k.board b).entry page).access ≡ write) ⊎ ((((k.board b).entry page).hint ≡ b) × (is_none ((k.board b).entry page).access ≡ false) × (kit.none_below n (has ((k.board b).entry page).copies) ≡ true))
+  MayStore = (((k.board b).entry page).access ≡ write) ⊎ ((((k.board b).entry page).hint ≡ b) × (denies ((k.board b).entry page).access ≡ false) × (kit.none_below n (has ((k.board b).entry page).copies) ≡ true))
 
   stored : owns st.number e ≡ true → sets.is_empty e.copies ≡ true → model.store_entry b (act ((k.board b).entry page).words) ≡ entry_image (board.written e address word)
   stored o c =
@@ -189,10 +189,10 @@ module _ {n p : ℕ} {l : specs.Ledger} {s : Running} {w : ℕ} (f : Follows n p
       }
 
   -- an owner has access
-  owner_reads : owns st.number e ≡ true → is_none ((k.board b).entry page).access ≡ false
+  owner_reads : owns st.number e ≡ true → denies ((k.board b).entry page).access ≡ false
   owner_reads o =
       let h = owner_rest (board_at s.kit b).boards st.number e entry_told o in
-      ap is_none (the_access e.access refl) ∙ readable e.access (and_parts (reads e.access) (not (writes e.access) || sets.is_empty e.copies) h).0
+      ap denies (the_access e.access refl) ∙ readable e.access (and_parts (reads e.access) (not (writes e.access) || sets.is_empty e.copies) h).0
 
   by_owner : (c : Bool) → sets.is_empty e.copies ≡ c → owns st.number e ≡ true → let o = cond c (board.put st e address word) (board.clearing_store st e address word) in Opens o → Goes o
   by_owner true c o opens = now (inr (ap (λ (x : model.Entry W). x.hint) image ∙ the_hint o, owner_reads o, none_is ∙ c)) o c opens

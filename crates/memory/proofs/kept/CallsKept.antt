@@ -7,7 +7,7 @@ use Rattle.memory.proofs.model.Calls.{Order, Said, Does, loads_now, loads_later,
 use Rattle.memory.proofs.model.Ledgers.{Ledger, after, Good}
 use Rattle.memory.proofs.model.Kit.{asked, clears, Seat, Board, Kit, none_below, invalidates, becomes, opened_seat, op_load, op_store, op_of}
 use Rattle.memory.proofs.model.Told.{Told, Equality}
-use Rattle.memory.proofs.model.Page.{home, asking, clearing, is_none, busy, far, marks}
+use Rattle.memory.proofs.model.Page.{home, asking, clearing, denies, busy, far, marks}
 use Rattle.memory.proofs.model.Sets.{has}
 use Rattle.memory.proofs.model.Steps.{goes, stored_at, ask_load, ask_store, clear, MayStore, store_now}
 use Rattle.memory.proofs.kept.AccessOpens.{free_is, undeferred, home_is, opened_kept, requests_self}
@@ -26,21 +26,21 @@ module _ {W : Type 0} {same : Mail W → Mail W → Bool} {n : ℕ} {l : Ledger 
   copies_below : (b p : ℕ) → b < n → (i.pages p).journey b ≡ home → ((i.pages p).entry b).hint ≡ b → (y : ℕ) → has ((i.pages p).entry b).copies y ≡ true → y < n
   copies_below b p lt e q y c = (copies_in (i.each p).core b (own n (l.memory p) (i.pages p) (i.each p).core b lt e q) e y c).0
 
-  may_do : (b p : ℕ) → b < n → (i.pages p).journey b ≡ home → (k.board b).entry p ≡ (i.pages p).entry b → (((k.board b).entry p).access ≡ write) ⊎ ((((k.board b).entry p).hint ≡ b) × (is_none ((k.board b).entry p).access ≡ false) × (none_below n (has ((k.board b).entry p).copies) ≡ true)) → MayStore (i.pages p) b
+  may_do : (b p : ℕ) → b < n → (i.pages p).journey b ≡ home → (k.board b).entry p ≡ (i.pages p).entry b → (((k.board b).entry p).access ≡ write) ⊎ ((((k.board b).entry p).hint ≡ b) × (denies ((k.board b).entry p).access ≡ false) × (none_below n (has ((k.board b).entry p).copies) ≡ true)) → MayStore (i.pages p) b
   may_do b p lt h t (inl w) = inl (ap (λ (z : Entry W). z.access) (sym t) ∙ w)
   may_do b p lt h t (inr (q, a, c)) =
       let q' : ((i.pages p).entry b).hint ≡ b = ap (λ (z : Entry W). z.hint) (sym t) ∙ q in
       let c' : none_below n (has ((i.pages p).entry b).copies) ≡ true = ap (λ (z : Entry W). none_below n (has z.copies)) (sym t) ∙ c in
       inr (
         q',
-        ap (λ (z : Entry W). is_none z.access) (sym t) ∙ a,
+        ap (λ (z : Entry W). denies z.access) (sym t) ∙ a,
         none_anywhere n (has ((i.pages p).entry b).copies) (copies_below b p lt h q') c',
       )
 
   pub does_kept : {c : Order W} {s : Said W} {ms : List (Mail W)} {j : Kit W} → Does n k c s ms j → Kept same n (after l c s ms) j × Good n l c s ms
   does_kept (loads_now b p lt shut a) =
       let t = i.told.entries b p in
-      let has : is_none ((i.pages p).entry b).access ≡ false = ap (λ (z : Entry W). is_none z.access) (sym t) ∙ a in
+      let has : denies ((i.pages p).entry b).access ≡ false = ap (λ (z : Entry W). denies z.access) (sym t) ∙ a in
       (nothing_new i, ap (λ (z : Entry W). z.words) t ∙ (i.each p).core.words.table b has)
   does_kept (loads_later b p lt shut a ms e) =
       let t = i.told.entries b p in

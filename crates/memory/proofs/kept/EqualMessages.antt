@@ -36,15 +36,15 @@ record Parts : Type 0 where
   pub one : ℕ
   pub two : ℕ
   pub three : ℕ
-  pub set : List Bool
+  pub copies : List Bool
   pub words : List ℕ
 
 abbrev parts : Mail (List ℕ) → Parts
-parts (request k t a h) = record { sort = cond (is_load k) 0 1; one = t; two = a; three = h; set = []; words = [] }
-parts (copy f t h w) = record { sort = 2; one = f; two = t; three = h; set = []; words = w }
-parts (grant f t h c w) = record { sort = 3; one = f; two = t; three = h; set = c; words = w }
-parts (invalidate f t) = record { sort = 4; one = f; two = t; three = 0; set = []; words = [] }
-parts (acknowledge f t) = record { sort = 5; one = f; two = t; three = 0; set = []; words = [] }
+parts (request k t a h) = record { sort = cond (is_load k) 0 1; one = t; two = a; three = h; copies = []; words = [] }
+parts (copy f t h w) = record { sort = 2; one = f; two = t; three = h; copies = []; words = w }
+parts (grant f t h c w) = record { sort = 3; one = f; two = t; three = h; copies = c; words = w }
+parts (invalidate f t) = record { sort = 4; one = f; two = t; three = 0; copies = []; words = [] }
+parts (acknowledge f t) = record { sort = 5; one = f; two = t; three = 0; copies = []; words = [] }
 
 abbrev whole : ℕ → ℕ → ℕ → ℕ → List Bool → List ℕ → Mail (List ℕ)
 whole zero a b c s w = request load a b c
@@ -55,7 +55,7 @@ whole (suc (suc (suc (suc zero)))) a b c s w = invalidate a b
 whole (suc (suc (suc (suc (suc n))))) a b c s w = acknowledge a b
 
 abbrev of_parts : Parts → Mail (List ℕ)
-of_parts p = whole p.sort p.one p.two p.three p.set p.words
+of_parts p = whole p.sort p.one p.two p.three p.copies p.words
 
 back : (m : Mail (List ℕ)) → of_parts (parts m) ≡ m
 back (request load t a h) = refl
@@ -66,7 +66,7 @@ back (invalidate f t) = refl
 back (acknowledge f t) = refl
 
 abbrev same_parts : Parts → Parts → Bool
-same_parts p q = eqb p.sort q.sort && (eqb p.one q.one && (eqb p.two q.two && (eqb p.three q.three && (same_list bit p.set q.set && same_list (λ x. x) p.words q.words))))
+same_parts p q = eqb p.sort q.sort && (eqb p.one q.one && (eqb p.two q.two && (eqb p.three q.three && (same_list bit p.copies q.copies && same_list (λ x. x) p.words q.words))))
 
 parts_are : (p q : Parts) → same_parts p q ≡ true → of_parts p ≡ of_parts q
 parts_are p q e =
@@ -74,14 +74,14 @@ parts_are p q e =
     let b : p.one ≡ q.one = grind (arith, nat_tests) in
     let c : p.two ≡ q.two = grind (arith, nat_tests) in
     let d : p.three ≡ q.three = grind (arith, nat_tests) in
-    let f : same_list bit p.set q.set ≡ true = grind (arith, nat_tests) in
+    let f : same_list bit p.copies q.copies ≡ true = grind (arith, nat_tests) in
     let g : same_list (λ x. x) p.words q.words ≡ true = grind (arith, nat_tests) in
-    let s = same_list_is bit bit_one p.set q.set f in
+    let s = same_list_is bit bit_one p.copies q.copies f in
     let w = same_list_is (λ x. x) (λ x y e. e) p.words q.words g in
     λ i. whole (a i) (b i) (c i) (d i) (s i) (w i)
 
 parts_self : (p : Parts) → same_parts p p ≡ true
-parts_self p = let a = same_list_self bit p.set in let b = same_list_self (λ x. x) p.words in grind (arith, nat_tests)
+parts_self p = let a = same_list_self bit p.copies in let b = same_list_self (λ x. x) p.words in grind (arith, nat_tests)
 
 abbrev pub same_mail : Mail (List ℕ) → Mail (List ℕ) → Bool
 same_mail x y = same_parts (parts x) (parts y)

@@ -2,7 +2,7 @@
 use Rattle.std.proofs.Common.{◌≡◌, ℕ, ◌-◌, ◌<◌, ◌≤◌, true, false, ◌⊎◌, [], refl, ap, inl, inr, arith}
 use Rattle.memory.proofs.model.Board.{load, store}
 use Rattle.memory.proofs.model.Invariant.{Holders, Tables, Data, Core, Inv}
-use Rattle.memory.proofs.model.Page.{Mark, deferred, Journey, home, asking, queued, copied, granted, clearing, Page, is_none, is_write, busy, rooted, mark_of, holder}
+use Rattle.memory.proofs.model.Page.{Mark, deferred, Journey, home, asking, queued, copied, granted, clearing, Page, denies, is_write, busy, rooted, mark_of, holder}
 use Rattle.memory.proofs.model.Steps.{stored_at, MayStore, Serving, empty, Call, ask_load, ask_store, clear, Move, joins, served, grant_in, defers, drops, acks, Loaded, copy_in, copy_then_drop, Stores, grant_free, last_ack, Answer, moves, loads, stores, Step, opens, load_now, store_now, delivers, fed, Right}
 use Rattle.memory.proofs.kept.Invalidations.{defer_core, drop_core, ack_core}
 use Rattle.memory.proofs.kept.PageAccesses.{ask_core, clear_core, stored_core}
@@ -83,7 +83,7 @@ module _ {W : Type 0} {n : ℕ} {v : W} {p : Page W} (i : Inv n v p) where
       record { is_root = r; open_so = inr (ap rooted e); nobody = λ y. grind (arith, facts, o.exact y, none_else y); words = grind (arith, d.table a, t.owner); bound = grind arith }
 
   now_ready : (a : ℕ) → a < n → p.journey a ≡ home → MayStore p a → Ready a 0 (p.entry a).words
-  now_ready a l e (inl is) = let k = t.writer a (ap is_write is) in record { is_root = k.0; open_so = inl e; nobody = λ x. grind (arith, facts, o.exact x, t.alone a x); words = d.table a (ap is_none is); bound = omega arith }
+  now_ready a l e (inl is) = let k = t.writer a (ap is_write is) in record { is_root = k.0; open_so = inl e; nobody = λ x. grind (arith, facts, o.exact x, t.alone a x); words = d.table a (ap denies is); bound = omega arith }
   now_ready a l e (inr (q, is, c)) = let k = own n v p core a l e q in record { is_root = k; open_so = inl e; nobody = λ x. grind (arith, facts, o.exact x, c x); words = d.table a is; bound = omega arith }
 
   pub ready_core : (a h : ℕ) (w : W) (f : W → W) → Ready a h w → Core n (f v) (stored_at p a (f w))

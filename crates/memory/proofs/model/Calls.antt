@@ -3,7 +3,7 @@ use Rattle.std.specs.Prelude.{◌≡◌, ℕ, ◌<◌, true, false, cond, ◌⊎
 use Rattle.wire.specs.Bags.{Bag, empty, ◌&◌}
 use Rattle.memory.proofs.model.Board.{none, write, load, store, Mail, request, store_entry}
 use Rattle.memory.proofs.model.Kit.{Maybe, absent, just, closed, asked, clears, Post, Kit, Reply, refused, replies, none_below, invalidates, to, becomes, arrives, opened_seat}
-use Rattle.memory.proofs.model.Page.{is_none}
+use Rattle.memory.proofs.model.Page.{denies}
 use Rattle.memory.proofs.model.Sets.{has, nobody}
 use Rattle.memory.proofs.model.Steps.{Answer, nothing, read_at, written_at}
 
@@ -40,9 +40,9 @@ module _ {W : Type 0} where
 
   -- what a call does to a kit
   pub data Does (n : ℕ) (k : Kit W) : Order W → Said W → List (Mail W) → Kit W → Type 0 where
-    loads_now : (b p : ℕ) → b < n → (k.board b).seat.stage ≡ closed → is_none ((k.board b).entry p).access ≡ false → Does n k (call_load b p) (answered (just ((k.board b).entry p).words)) [] k
+    loads_now : (b p : ℕ) → b < n → (k.board b).seat.stage ≡ closed → denies ((k.board b).entry p).access ≡ false → Does n k (call_load b p) (answered (just ((k.board b).entry p).words)) [] k
     loads_later : (b p : ℕ) → b < n → (k.board b).seat.stage ≡ closed → ((k.board b).entry p).access ≡ none → (ms : List (Mail W)) → ms ≡ request load ((k.board b).entry p).hint b 0 ∷ [] → Does n k (call_load b p) opened ms (becomes k b p (opened_seat p (asked load) (λ w. w) (λ _. false)) ((k.board b).entry p) ms k.link)
-    stores_now : (b p : ℕ) (f : W → W) → b < n → (k.board b).seat.stage ≡ closed → (((k.board b).entry p).access ≡ write) ⊎ ((((k.board b).entry p).hint ≡ b) × (is_none ((k.board b).entry p).access ≡ false) × (none_below n (has ((k.board b).entry p).copies) ≡ true)) → Does n k (call_store b p f) (answered absent) [] (becomes k b p (k.board b).seat (store_entry b (f ((k.board b).entry p).words)) [] k.link)
+    stores_now : (b p : ℕ) (f : W → W) → b < n → (k.board b).seat.stage ≡ closed → (((k.board b).entry p).access ≡ write) ⊎ ((((k.board b).entry p).hint ≡ b) × (denies ((k.board b).entry p).access ≡ false) × (none_below n (has ((k.board b).entry p).copies) ≡ true)) → Does n k (call_store b p f) (answered absent) [] (becomes k b p (k.board b).seat (store_entry b (f ((k.board b).entry p).words)) [] k.link)
     stores_clearing : (b p : ℕ) (f : W → W) → b < n → (k.board b).seat.stage ≡ closed → ((k.board b).entry p).hint ≡ b → none_below n (has ((k.board b).entry p).copies) ≡ false → (ms : List (Mail W)) → ms ≡ invalidates n b ((k.board b).entry p).copies → Does n k (call_store b p f) opened ms (becomes k b p (opened_seat p (clears 0) f (has ((k.board b).entry p).copies)) ((k.board b).entry p) ms k.link)
     stores_later : (b p : ℕ) (f : W → W) → b < n → (k.board b).seat.stage ≡ closed → (((k.board b).entry p).hint ≢ b) → (ms : List (Mail W)) → ms ≡ request store ((k.board b).entry p).hint b 0 ∷ [] → Does n k (call_store b p f) opened ms (becomes k b p (opened_seat p (asked store) f (λ _. false)) ((k.board b).entry p) ms k.link)
     delivers_it : (p : ℕ) (m : Mail W) (rest : Bag (Post W)) (r : Reply W) → k.link ≡ record { page = p; mail = m } & rest → arrives n k p m ≡ r → Does n k call_deliver (said_by r) (posts_by r) (kit_by k (to m) p rest r)

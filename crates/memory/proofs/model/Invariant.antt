@@ -2,7 +2,7 @@
 use Rattle.std.specs.Prelude.{◌≡◌, ℕ, ◌<◌, true, false, []}
 use Rattle.std.specs.List.{AllByRecursion as All}
 use Rattle.memory.proofs.model.Board.{Req}
-use Rattle.memory.proofs.model.Page.{deferred, queued, Page, is_none, is_write, awaits, busy, rooted, is_clearing, is_granted, loading, queued_at, Carries, mark, cover, holder, view, occ}
+use Rattle.memory.proofs.model.Page.{deferred, queued, Page, denies, is_write, awaits, busy, rooted, is_clearing, is_granted, loading, queued_at, Carries, mark, cover, holder, view, occ}
 use Rattle.memory.proofs.model.Sums.{bit}
 use Rattle.memory.proofs.model.Tree as tree
 
@@ -18,14 +18,14 @@ module _ {W : Type 0} where
     pub waiting : (x : ℕ) → mark p x ≡ deferred → loading (p.journey x) ≡ true
 
   pub record Tables (n : ℕ) (p : Page W) : Type 0 where
-    pub inside : (x : ℕ) → is_none (p.entry x).access ≡ false → x < n
-    pub owner : is_granted (p.journey p.root) ≡ false → is_none (p.entry p.root).access ≡ false
+    pub inside : (x : ℕ) → denies (p.entry x).access ≡ false → x < n
+    pub owner : is_granted (p.journey p.root) ≡ false → denies (p.entry p.root).access ≡ false
     pub writer : (x : ℕ) → is_write (p.entry x).access ≡ true → (x ≡ p.root) × (busy (p.journey x) ≡ false)
     pub alone : (x y : ℕ) → is_write (p.entry x).access ≡ true → cover p y ≡ false
-    pub loads : (x : ℕ) → loading (p.journey x) ≡ true → is_none (p.entry x).access ≡ true
+    pub loads : (x : ℕ) → loading (p.journey x) ≡ true → denies (p.entry x).access ≡ true
 
   pub record Data (v : W) (p : Page W) : Type 0 where
-    pub table : (x : ℕ) → is_none (p.entry x).access ≡ false → (p.entry x).words ≡ v
+    pub table : (x : ℕ) → denies (p.entry x).access ≡ false → (p.entry x).words ≡ v
     pub carried : (x : ℕ) → Carries (p.journey x) v
 
   -- all but that who has nothing open has nobody waiting

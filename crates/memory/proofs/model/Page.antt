@@ -23,10 +23,10 @@ pub record Page (W : Type 0) : Type 0 where
   pub waits : ℕ → List Req
 
 -- questions of one access, one mark, one journey
-abbrev pub is_none : Access → Bool
-is_none none = true
-is_none read = false
-is_none write = false
+abbrev pub denies : Access → Bool
+denies none = true
+denies read = false
+denies write = false
 
 abbrev pub is_read : Access → Bool
 is_read none = false

@@ -2,7 +2,7 @@
 use Rattle.std.specs.Prelude.{◌≡◌, ℕ, ◌+◌, ◌-◌, ◌<◌, ◌≤◌, true, false, ◌⊎◌, List, [], ◌∷◌, ◌++◌, ◌≢◌}
 use Rattle.memory.specs.Functions.{changed}
 use Rattle.memory.proofs.model.Board.{none, write, Kind, load, store, Req, pass_entry, copy_entry, grant_entry, got_copy, drop_entry, store_entry, got_grant}
-use Rattle.memory.proofs.model.Page.{Mark, unmarked, sent, deferred, acked, Journey, home, asking, queued, copied, granted, clearing, Page, is_none, awaits, busy, loading, At, marks}
+use Rattle.memory.proofs.model.Page.{Mark, unmarked, sent, deferred, acked, Journey, home, asking, queued, copied, granted, clearing, Page, denies, awaits, busy, loading, At, marks}
 use Rattle.memory.proofs.model.Sets.{has, put, Boards}
 
 -- what a step answers
@@ -121,7 +121,7 @@ module _ {W : Type 0} where
 
   -- a store answered at once, by f on the page's words
   abbrev pub MayStore : Page W → ℕ → Type 0
-  MayStore p a = ((p.entry a).access ≡ write) ⊎ (((p.entry a).hint ≡ a) × (is_none (p.entry a).access ≡ false) × ((y : ℕ) → has (p.entry a).copies y ≡ false))
+  MayStore p a = ((p.entry a).access ≡ write) ⊎ (((p.entry a).hint ≡ a) × (denies (p.entry a).access ≡ false) × ((y : ℕ) → has (p.entry a).copies y ≡ false))
 
   -- deliveries that finish nothing
   pub data Move (p : Page W) : Page W → Type 0 where
@@ -149,6 +149,6 @@ module _ {W : Type 0} where
 
   pub data Step (n : ℕ) (p : Page W) : Answer W → Page W → Type 0 where
     opens : {q : Page W} → Call n p q → Step n p nothing q
-    load_now : (a : ℕ) → p.journey a ≡ home → is_none (p.entry a).access ≡ false → Step n p (read_at a 0 (p.entry a).words) p
+    load_now : (a : ℕ) → p.journey a ≡ home → denies (p.entry a).access ≡ false → Step n p (read_at a 0 (p.entry a).words) p
     store_now : (a : ℕ) (f : W → W) → a < n → p.journey a ≡ home → MayStore p a → Step n p (written_at a 0 f) (stored_at p a (f (p.entry a).words))
     delivers : {d : Answer W} {q : Page W} → Delivery p d q → Step n p d q

@@ -1,5 +1,6 @@
 ghost use Rattle.std.specs.Prelude.{◌≡◌, ◌+◌, ◌*◌, ◌^◌, ◌<◌, length, if◌then◌else◌};
 ghost use Rattle.wire.specs.BoardBits.{bit, set_bits, set_of_bits};
+ghost use Rattle.wire.specs.BoardSets.{marks};
 
 use super::BoardSet;
 use std::array;
@@ -25,7 +26,7 @@ impl BoardSet {
     // Named after its bits, as the library's `to_bits` of floats: `u16::from(set)` would not say which number of a set it is.
     pub fn to_bits(&self) -> u16
         ensures bits { result ≡ set_bits self.now }
-        ensures sixteen { length self.now.members ≡ 16 }
+        ensures sixteen { length (marks self.now) ≡ 16 }
     {
         let mut bits = 0u16;
         for member in self.members.iter().rev() {

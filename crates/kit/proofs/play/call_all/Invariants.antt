@@ -1,10 +1,11 @@
-use Rattle.std.proofs.Common.{◌+◌, ◌≤◌, ◌-◌, length, take, vec_items, vec_len, vec_capacity}
-use Rattle.kit.specs.Plays.{PlayedFrom}
+use Rattle.std.proofs.Common.{◌≡◌, take, drop}
+use Rattle.kit.specs.Plays.{AnsweredFrom}
 use Rattle.kit.proofs.play.call_all.Given as goal
 
--- the calls so far were carried out, and there is room for the answers to the others
-abbrev pub invariant-loop-call : goal.invariant-loop-call
-invariant-loop-call g l = record {
-  played : PlayedFrom g.L.Link.limit g.L.Link.waiting g.L.Choice.joins g.L.Choice.chooses l.initial.kit (take l.call-index l.calls) (vec_items l.answers) l.kit;
-  room : vec_len l.answers + (length l.calls - l.call-index) ≤ vec_capacity l.answers;
+-- the turns so far have their answers, and the others are as they were
+abbrev pub invariant-loop-turn : goal.invariant-loop-turn
+invariant-loop-turn g l = record {
+  answered : AnsweredFrom g.L.Link.limit g.L.Link.waiting g.L.Choice.joins g.L.Choice.chooses l.initial.kit
+      (take l.turn-index l.fn.turns) (take l.turn-index l.turns) l.kit;
+  rest : drop l.turn-index l.turns ≡ drop l.turn-index l.fn.turns;
 }

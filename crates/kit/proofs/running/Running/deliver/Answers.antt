@@ -6,7 +6,8 @@ use Rattle.kit.proofs.running.Running.deliver.Goals as goal
 
 pub returns-in_default : goal.returns-in_default
 returns-in_default g c =
-    quiet g.L.Link.limit g.L.Link.waiting g.L.Choice.joins g.L.Choice.chooses c.args.pick _ _ (search rules) (search rules) (same_kit _ _ refl (search rules) refl)
+    quiet g.L.Link.limit g.L.Link.waiting g.L.Choice.joins g.L.Choice.chooses c.args.pick _ _
+    (search rules) (search rules) refl refl (λ e. same_kit _ _ refl e refl refl)
 
 pub returns-in_err-ask_arrival : goal.returns-in_err-ask_arrival
 returns-in_err-ask_arrival g c =
