@@ -1,5 +1,8 @@
 -- The code's bench, and what a script may have made of it.
-use Rattle.std.specs.Prelude.{◌≡◌, ℕ, List, []}
+use Rattle.std.specs.Prelude.{◌≡◌, ℕ, List, [], length, ⊤}
+use Rattle.std.specs.Coded.{Unit-prop}
+use Rattle.std.proofs.Math.Logic.{∥∥₁_prop}
+use Rattle.std.proofs.Math.Nat.{ℕ_set}
 use Rattle.wire.specs.Bags.{bag}
 use Rattle.wire.specs.Links.{largest_limit}
 use Rattle.wire.specs.declared.message.Message.{Message}
@@ -42,11 +45,22 @@ pub record Came (k : Kit) (row : List Message) : Type 0 where
   pub history : History
   pub reached : Reached (begun boards pages largest_limit placements) history (over_link k row)
 
--- the link is one of the largest limit, on which nothing waits before the start, and the kit has come to be what it is by the calls of kits
+-- the link is one of the largest limit, on which nothing waits before the start, and the kit has come to be what it is
+-- by the calls of kits
 abbrev pub Ready : Bench → Type 0
-Ready NoKit = Unit {0}
-Ready (Loading k) = (limit_of (loading_link k) ≡ largest_limit) × (row_of (loading_link k) ≡ []) × Began (loading_kit k)
-Ready (Running k) = (limit_of (running_link k) ≡ largest_limit) × Came (running_kit k) (row_of (running_link k))
+Ready NoKit = ⊤
+Ready (Loading k) =
+    (limit_of (loading_link k) ≡ largest_limit) × (length (row_of (loading_link k)) ≡ 0) × ∥ Began (loading_kit k) ∥₁
+Ready (Running k) =
+    (limit_of (running_link k) ≡ largest_limit) × ∥ Came (running_kit k) (row_of (running_link k)) ∥₁
+
+-- which can be so in one way alone
+pub ready_prop : (b : Bench) → IsProp (Ready b)
+ready_prop NoKit = Unit-prop
+ready_prop (Loading k) =
+    λ f g i. (ℕ_set _ _ f.0 g.0 i, ℕ_set _ _ f.1 g.1 i, ∥∥₁_prop {A = Began (loading_kit k)} f.2 g.2 i)
+ready_prop (Running k) =
+    λ f g i. (ℕ_set _ _ f.0 g.0 i, ∥∥₁_prop {A = Came (running_kit k) (row_of (running_link k))} f.1 g.1 i)
 
 abbrev pub IsRunning : Bench → Type 0
 IsRunning NoKit = ⊥
@@ -56,5 +70,6 @@ IsRunning (Running k) = Unit {0}
 -- the kit that was loading is running, with nothing on its link
 abbrev pub Starts : Bench → Bench → Type 0
 Starts NoKit after = after ≡ NoKit
-Starts (Loading k) after = (bench_of after ≡ plays.running (kind_of (loading_link k)) (loading_kit k) []) × IsRunning after × Ready after
+Starts (Loading k) after =
+    (bench_of after ≡ plays.running (kind_of (loading_link k)) (loading_kit k) []) × IsRunning after × Ready after
 Starts (Running k) after = after ≡ Running k

@@ -9,4 +9,6 @@ pub mod NamedLinks
 pub mod Benches
 pub mod Turns
 pub mod Sessions
+pub mod Players
 pub mod Laws
+pub mod Streams

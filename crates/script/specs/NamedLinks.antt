@@ -1,6 +1,6 @@
 -- The link that a record named.
 use Rattle.std.specs.Prelude.{ℕ, List}
-use Rattle.wire.specs.Rows.{row}
+use Rattle.wire.specs.Rows.{row, row_limit}
 use Rattle.wire.specs.declared.message.Message.{Message}
 use Rattle.script.specs.declared.call.LinkKind.{LinkKind}
 use Rattle.script.specs.declared.call.LinkKind.TheVariants as kind
@@ -12,8 +12,8 @@ kind_of (Queue q) = kind.Queue
 kind_of (Pool p) = kind.Pool
 
 abbrev pub limit_of : NamedLink → ℕ
-limit_of (Queue q) = q.limit
-limit_of (Pool p) = p.limit
+limit_of (Queue q) = row_limit q
+limit_of (Pool p) = row_limit p
 
 -- the messages that wait on it, in order of posting
 abbrev pub row_of : NamedLink → List Message

@@ -48,13 +48,14 @@ pub(crate) fn read_number(base: Base, text: &[u8]) -> Option<u32>
     Some(n)
 }
 
+const DIGITS: [u8; 16] = *b"0123456789abcdef";
+
 /// The character of a digit.
 fn digit_char(d: u8) -> u8
     requires { d < 16 }
     ensures { result ≡ digit_char d }
 {
-    // `char::from_digit` gives a `char` in an `Option`, and two conversions more are no plainer.
-    if d < 10 { b'0' + d } else { b'a' - 10 + d }
+    DIGITS[usize::from(d)]
 }
 
 /// Writes a number in as many digits as there is room for.

@@ -1,4 +1,4 @@
-ghost use Rattle.std.specs.Prelude.{◌≡◌, [], length, IfOk};
+ghost use Rattle.std.specs.Prelude.{◌≡◌, [], length, IfOk, IfNone};
 ghost use Rattle.std.proofs.Common.{rules};
 
 use crate::call::LinkKind;
@@ -40,7 +40,9 @@ impl Choice for NamedLink {
 
     ghost joins = { λ s message r after. Joins message r (row_of s) (row_of after) × (kind_of after ≡ kind_of s) };
 
-    ghost chooses = { λ s pick r after. Chosen (place_of (kind_of s) pick (length (row_of s))) r (row_of s) (row_of after) × (kind_of after ≡ kind_of s) };
+    ghost chooses = { λ s pick r after.
+        Chosen (place_of (kind_of s) pick (length (row_of s))) r (row_of s) (row_of after)
+        × (kind_of after ≡ kind_of s) × IfNone r (after ≡ s) };
 }
 
 impl Link for NamedLink {

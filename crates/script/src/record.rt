@@ -1,5 +1,7 @@
 ghost use Rattle.std.specs.Prelude.{◌≡◌, ◌<◌, [], ◌∷◌, length, is_some, IfOk, IfSome, Some, ok_or};
+ghost use Rattle.wire.specs.Faults.{number};
 ghost use Rattle.wire.specs.Questions.{refusal, first_no};
+ghost use Rattle.script.specs.Digits.{numeral};
 ghost use Rattle.script.specs.Records.{call_of, form, framed, numbers_in};
 ghost use Rattle.wire.specs.declared.fault.Fault.TheVariants.{BadForm};
 
@@ -19,6 +21,17 @@ fn is_framed(text: &[u8; RECORD_LENGTH]) -> bool
     text[14] == b' ' && text[15] == b'\n'
 }
 
+/// The number that eight digits write. Most are zeros, which are not read one by one.
+fn read_eight(text: &[u8]) -> Option<u32>
+    requires { length text.now ≡ 8 }
+    ensures { result ≡ numeral 16 text.now }
+{
+    if text == b"00000000".as_slice() {
+        return Some(0);
+    }
+    read_number(Base::Sixteen, text)
+}
+
 /// The numbers that the digits of a record write.
 fn read_numbers(text: &[u8; RECORD_LENGTH]) -> Option<Numbers>
     ensures value { result ≡ numbers_in text.now }
@@ -28,7 +41,7 @@ fn read_numbers(text: &[u8; RECORD_LENGTH]) -> Option<Numbers>
     Some(Numbers {
         two: read_number(Base::Ten, &text[1..3])?,
         three: read_number(Base::Ten, &text[3..6])?,
-        eight: read_number(Base::Sixteen, &text[6..14])?,
+        eight: read_eight(&text[6..14])?,
     })
 }
 
@@ -68,7 +81,7 @@ fn name_call(letter: char, numbers: Numbers) -> Result<Call, Fault>
 /// The call that a record asks for. One of another length, as a last record cut short, breaks the form.
 // A text is read, as `read_record` reads the bytes of a message: `Call::try_from` would say no more and name it less.
 pub fn read_call(text: &[u8]) -> Result<Call, Fault>
-    ensures refused { refusal result ≡ first_no ((17, is_some (form text.now)) ∷ []) }
+    ensures refused { refusal result ≡ first_no ((number BadForm, is_some (form text.now)) ∷ []) }
     ensures call { IfOk result (λ c. form text.now ≡ Some c) }
 {
     let text: &[u8; RECORD_LENGTH] = text.as_array().ok_or(Fault::BadForm)?;

@@ -1,4 +1,4 @@
-ghost use Rattle.std.specs.Prelude.{◌≡◌, [], IfOk, Some};
+ghost use Rattle.std.specs.Prelude.{◌≡◌, [], length, IfOk, Some};
 ghost use Rattle.wire.specs.Links.{largest_limit};
 ghost use Rattle.wire.specs.Questions.{refusal, first_no};
 ghost use Rattle.memory.specs.Kits.{start_kit};
@@ -25,7 +25,9 @@ use wire::link::LARGEST_LIMIT;
 /// The kit of a plan over an empty link of the largest limit.
 fn make_kit(plan: KitPlan) -> Result<Loading<NamedLink>, Fault>
     ensures refused { refusal result ≡ first_no (making_questions plan.boards plan.pages largest_limit 0) }
-    ensures made { IfOk result (λ k. (loading_kit k ≡ start_kit plan.boards plan.pages) × (kind_of (loading_link k) ≡ plan.link) × (limit_of (loading_link k) ≡ largest_limit) × (row_of (loading_link k) ≡ [])) }
+    ensures made { IfOk result (λ k. (loading_kit k ≡ start_kit plan.boards plan.pages)
+        × (kind_of (loading_link k) ≡ plan.link) × (limit_of (loading_link k) ≡ largest_limit)
+        × (row_of (loading_link k) ≡ [])) }
 {
     let link = NamedLink::new(plan.link, LARGEST_LIMIT)?;
     Loading::new(link, plan.boards, plan.pages)
@@ -58,7 +60,7 @@ fn place(bench: &mut Bench, address: u32, word: u32) -> Result<Answer, Fault>
 /// What the call that starts a kit is asked before.
 fn ask_first(kit: &Loading<NamedLink>, call: KitCall) -> Result<(), Fault>
     requires limit { limit_of (loading_link kit.now) ≡ largest_limit }
-    requires empty { row_of (loading_link kit.now) ≡ [] }
+    requires empty { length (row_of (loading_link kit.now)) ≡ 0 }
     ensures { refusal result ≡ first_no (run_questions (loading_kit kit.now) call) }
 {
     match call {
@@ -70,6 +72,7 @@ fn ask_first(kit: &Loading<NamedLink>, call: KitCall) -> Result<(), Fault>
 }
 
 /// Starts the kit that is loading.
+#[tactic(auto, using(crate::proofs::Turns::starts_kit))]
 fn start(bench: &mut Bench)
     requires { Ready bench.old }
     ensures { Starts bench.old bench.new }

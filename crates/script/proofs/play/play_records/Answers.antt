@@ -1,39 +1,32 @@
-use Rattle.std.proofs.Common.{◌≡◌, suc, ◌∷◌, ◌∙◌, arith}
+use Rattle.std.proofs.Common.{◌∙◌, append-nil, arith}
+use Rattle.std.proofs.lemmas.List.{nil_from_length}
 use Rattle.std.specs.Slice.Iter.{chunks_rest}
-use Rattle.wire.specs.Faults.{number}
-use Rattle.script.specs.Benches.{bench_of}
-use Rattle.script.specs.Records.{record_count, records}
+use Rattle.script.specs.Records.{records}
+use Rattle.script.proofs.Progress.{line_more, next_more}
 use Rattle.script.proofs.Scripts.{records_more}
-use Rattle.script.proofs.Listings.{goes_on, goes_on_refused, ends_here}
 use Rattle.script.proofs.play.play_records.Goals as goal
-use Rattle.script.proofs.play.play_records.Goals.{After-turn}
-
--- the record of this turn comes before those that are left
-first : (c : After-turn) → (records (chunks_rest c.loop-text.text-iterator) ≡ c.in-Some.text.now ∷ records (chunks_rest c.next.new.self)) × (record_count (chunks_rest c.loop-text.text-iterator) ≡ suc (record_count (chunks_rest c.next.new.self)))
-first c =
-    let steps = c.in-Some.ensures.steps in
-    records_more (chunks_rest c.loop-text.text-iterator) c.in-Some.text.now (chunks_rest c.next.new.self) steps.1.0 (rw c.loop-text.invariant.size at steps.1.1) steps.1.2
-
-pub loop-text-preserved-in-Ok : goal.loop-text-preserved-in-Ok
-loop-text-preserved-in-Ok c =
-    let more = first (goal.at.loop-text-preserved-in-Ok c).After-turn in
-    record {
-      size = c.in-Some.ensures.steps.0 ∙ c.loop-text.invariant.size;
-      whole = goes_on (bench_of c.loop-text.bench) c.in-Some.text.now (records (chunks_rest c.next.new.self)) _ more.0 _ _ c.loop-text.invariant.whole (record { answer = c.in-Ok.answer; posted = c.in-Ok.ensures.done.0; bench = bench_of c.turn.new.bench }) _ _ c.in-Ok.ensures.refused c.in-Ok.ensures.done.1 c.into.ensures c.add_line.ensures.items;
-      ready = c.in-Ok.ensures.ready;
-      room = omega (arith, more.1, c.loop-text.invariant.room, c.add_line.ensures.len, c.add_line.ensures.capacity);
-    }
-
-pub returns-then-starts_with : goal.returns-then-starts_with
-returns-then-starts_with c =
-    ends_here (bench_of c.loop-text.bench) c.in-Some.text.now (records (chunks_rest c.next.new.self)) _ (first (goal.at.returns-then-starts_with c).After-turn).0 _ _ c.loop-text.invariant.whole (number c.in-Err.fault) _ _ c.in-Err.ensures.refused c.into-in-Err.ensures c.add_line-in-Err.ensures.items c.if-starts_with.ensures.value
 
 pub loop-text-preserved : goal.loop-text-preserved
 loop-text-preserved c =
-    let more = first (goal.at.loop-text-preserved c).After-turn in
+    let so = c.loop-text.invariant in
+    let steps = c.in-Some.ensures.steps in
+    let text = c.in-Some.text.now in
+    let behind = chunks_rest c.next.new.self in
+    let more = records_more (chunks_rest c.loop-text.text-iterator) text behind steps.1.0 (rw so.size at steps.1.1) steps.1.2 in
+    let answered = c.answer.ensures in
     record {
-      size = c.in-Some.ensures.steps.0 ∙ c.loop-text.invariant.size;
-      whole = rw c.in-Err.ensures.kept (goes_on_refused (bench_of c.loop-text.bench) c.in-Some.text.now (records (chunks_rest c.next.new.self)) _ more.0 _ _ c.loop-text.invariant.whole (number c.in-Err.fault) _ _ c.in-Err.ensures.refused c.into-in-Err.ensures c.add_line-in-Err.ensures.items c.if-starts_with.ensures.value);
-      ready = c.in-Err.ensures.ready;
-      room = omega (arith, more.1, c.loop-text.invariant.room, c.add_line-in-Err.ensures.len, c.add_line-in-Err.ensures.capacity);
+      size = steps.0 ∙ so.size;
+      lines = line_more text (records behind) _ more.0 _ _ _ answered.line answered.play _ _ _ c.put_line-at.ensures.chars so.lines;
+      play = next_more text (records behind) _ more.0 _ _ _ answered.play so.play;
+      room = omega (arith, c.put_line-at.ensures.room, more.1, so.room);
     }
+
+pub returns-clause-lines : goal.returns-clause-lines
+returns-clause-lines c =
+    let none = nil_from_length (chunks_rest c.loop-text.text-iterator) c.in-None.ensures.steps.1.0 in
+    rw (none, append-nil) at c.loop-text.invariant.lines
+
+pub returns-clause-play : goal.returns-clause-play
+returns-clause-play c =
+    let none = nil_from_length (chunks_rest c.loop-text.text-iterator) c.in-None.ensures.steps.1.0 in
+    rw none at c.loop-text.invariant.play

@@ -1,15 +1,16 @@
-use Rattle.std.proofs.Common.{◌≡◌, ◌+◌, ◌*◌, ◌≤◌, ◌++◌, vec_items, vec_len, vec_capacity}
+use Rattle.std.proofs.Common.{◌≡◌, ◌+◌, ◌*◌, ◌≤◌, ◌++◌, take}
 use Rattle.std.specs.Slice.Iter.{chunks_rest, chunks_size}
-use Rattle.script.specs.Benches.{bench_of, Ready}
-use Rattle.script.specs.Plays.{no_kit, answers}
+use Rattle.script.specs.Players.{lines, next_all, play_of}
 use Rattle.script.specs.Records.{record_count, records}
+use Rattle.script.specs.Streams.{most_at_hand}
 use Rattle.script.proofs.play.play_records.Given as goal
 
--- with the answers to the records that are left the listing is whole, the bench is one that a script can make, and there is room for them
+-- with the answers to the records that are left all is answered, and there is room for them
 abbrev pub invariant-loop-text : goal.invariant-loop-text
 invariant-loop-text l = record {
   size : chunks_size l.text-iterator ≡ 16;
-  whole : vec_items l.listing ++ answers (bench_of l.bench) (records (chunks_rest l.text-iterator)) ≡ vec_items l.initial.listing ++ answers no_kit (records l.script);
-  ready : Ready l.bench;
-  room : vec_len l.listing + 16 * record_count (chunks_rest l.text-iterator) ≤ vec_capacity l.listing;
+  lines : take l.at l.out ++ lines (play_of l.player) (records (chunks_rest l.text-iterator))
+      ≡ lines (play_of l.initial.player) (records l.script);
+  play : next_all (play_of l.player) (records (chunks_rest l.text-iterator)) ≡ next_all (play_of l.initial.player) (records l.script);
+  room : l.at + 16 * record_count (chunks_rest l.text-iterator) ≤ most_at_hand;
 }
