@@ -1,8 +1,9 @@
 """Makes the sessions that the gate plays, byte for byte the same each time: run at the top, python3 tools/sessions.py
 
-For each number of boards and each link it makes a script, plays it on the model and stores both in crates/sessions/data. It
-copies the sessions of examples/ there too, and writes what the program `sessions` is given and what it must print.
-With --check it writes nothing, and fails if a file is not what it would write.
+For each number of boards and each link it makes a script, plays it on the model and stores both in
+crates/sessions/data. It copies the sessions of examples/ there too, and writes what the program `sessions` is given,
+what it must print and the status that it must end with. One session is stored with a listing that is wrong on purpose:
+the program must tell it, and fail. With --check it writes nothing, and fails if a file is not what it would write.
 """
 
 import pathlib
@@ -14,7 +15,17 @@ TOP = pathlib.Path(__file__).resolve().parent.parent
 EXAMPLES = TOP / "examples"
 CRATE = TOP / "crates" / "sessions"
 LINKS = ("queue", "pool")
-SHORTEST = 330  # records of a made session
+SHORTEST = 330  # records of a session for a number of boards and a link
+
+WAYS = ("at the bench", "over two caps")  # how the program plays each session
+
+# longer than what the bench reads at once: boards, link, records, and the bytes behind them. The first has more than
+# 64 KiB, the second ends at a refused K with records and a cut record behind it, the third at a last record cut short
+LONG = (
+    ("long", 9, 1, 4200, b""),
+    ("long-ended", 16, 0, 1500, b"K0200100000000 \nD0000000000000 \nP0000000000001 \nL000000"),
+    ("long-cut", 5, 1, 1100, b"S0000300000"),
+)
 
 # how often a load, a store and a delivery come, and on how many pages and places of each
 PHASES = (
@@ -110,13 +121,13 @@ class Session:
     def busy(self):
         return [b.number for b in self.player.kit.boards if b.open is not None]
 
-    def make(self):
+    def make(self, shortest):
         self.call("D")
         self.malformed()
         self.call("K", self.boards, self.pages, self.pool)
         self.place()
         phase = 0
-        while len(self.records) < SHORTEST:
+        while len(self.records) < shortest:
             self.play_phase(*PHASES[phase % len(PHASES)][1:])
             phase += 1
         self.drain()
@@ -180,21 +191,46 @@ def sessions():
     for boards in range(1, 17):
         for pool, link in enumerate(LINKS):
             session = Session(boards, pool)
-            session.make()
+            session.make(SHORTEST)
             yield f"n{boards:02d}-{link}", b"".join(session.records), b"".join(session.answers)
+    for name, boards, pool, shortest, behind in LONG:
+        session = Session(boards, pool)
+        session.make(shortest)
+        script = b"".join(session.records) + behind
+        yield name, script, model.listing(script)
+
+
+def stored():
+    """Each session with its listing, and the one that is stored: the same but for one, which is wrong on purpose."""
+    for name, script, listing in sessions():
+        assert listing == model.listing(script), name
+        yield name, script, listing, listing
+        if name == "worked":
+            yield "worked-wrong", script, listing, listing.replace(b"F010030000002a0", b"F010030000002b0")
+
+
+def told(name, played, expected):
+    """What the program prints of a session."""
+    says = f"{len(played) // 16} records, the listing agrees\n"
+    if played != expected:
+        line = next(place for place in range(len(played)) if played[place] != expected[place]) // 16
+        lines = [listing.decode().splitlines()[line] for listing in (expected, played)]
+        says = f"the listing differs at line {line + 1}\n  expected {lines[0]}\n  found    {lines[1]}\n"
+    return "".join(f"{name} {way}: {says}" for way in WAYS)
 
 
 def files():
     """What is written, by path."""
-    names, printed = "", ""
-    for name, script, listing in sessions():
-        assert listing == model.listing(script), name
+    names, printed, status = "", "", 0
+    for name, script, played, expected in stored():
         yield CRATE / "data" / f"{name}.script", script
-        yield CRATE / "data" / f"{name}.listing", listing
+        yield CRATE / "data" / f"{name}.listing", expected
         names += f"{name}\n"
-        printed += f"{name}: {len(listing) // 16} records, the listing agrees, and over two caps\n"
+        printed += told(name, played, expected)
+        status = 1 if played != expected else status
     yield CRATE / "stdin", names.encode()
     yield CRATE / "stdout", printed.encode()
+    yield CRATE / "status", f"{status}\n".encode()
 
 
 def main():

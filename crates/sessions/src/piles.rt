@@ -1,5 +1,4 @@
 use kit::loading::Loading;
-use kit::play::NotPlayed;
 use kit::running::Running;
 use memory::call::Call as KitCall;
 use script::answer::Answer;
@@ -15,6 +14,27 @@ use wire::queue::Queue;
 
 /// How many characters a record has.
 const RECORD: usize = 16;
+
+/// Why there is no listing.
+#[derive(Clone, Copy, Debug)]
+pub(crate) enum NotPlayed {
+    /// A link or a cap was refused.
+    Refused(Fault),
+    /// There was no memory for the listing.
+    NoMemory(AllocError),
+}
+
+impl From<Fault> for NotPlayed {
+    fn from(fault: Fault) -> NotPlayed {
+        NotPlayed::Refused(fault)
+    }
+}
+
+impl From<AllocError> for NotPlayed {
+    fn from(error: AllocError) -> NotPlayed {
+        NotPlayed::NoMemory(error)
+    }
+}
 
 /// A kit over whatever link, played through the library.
 #[derive(Drop)]
@@ -111,8 +131,8 @@ fn carry_out<L: Link + Drop>(stage: Stage<L>, text: &[u8]) -> Turn<L> {
 fn play_over<L: Link + Drop>(heap: Global, script: &[u8], link: L) -> Result<Vec<u8>, AllocError> {
     let mut listing = Vec::new(heap);
     let mut stage = Stage::NoKit(link);
-    for text in script.chunks(RECORD) {
-        let done = carry_out(stage, text);
+    for record in script.chunks(RECORD) {
+        let done = carry_out(stage, record);
         stage = done.stage;
         let refused = done.answer.is_err();
         let line: Line = match done.answer {
@@ -120,7 +140,7 @@ fn play_over<L: Link + Drop>(heap: Global, script: &[u8], link: L) -> Result<Vec
             Err(fault) => fault.into(),
         };
         listing.extend_from_slice(&line.text())?;
-        if refused && text.starts_with(b"K") {
+        if refused && record.starts_with(b"K") {
             break;
         }
     }
@@ -142,7 +162,8 @@ fn link_named(script: &[u8]) -> LinkKind {
     LinkKind::Queue
 }
 
-/// The listing of a script over two caps on the link that it names. Their choice is that of the link, so it is the listing without them.
+/// The listing of a script over two caps on the link that it names. Their choice is that of the link, so it is the listing
+/// without them.
 pub(crate) fn play_over_caps(heap: Global, script: &[u8]) -> Result<Vec<u8>, NotPlayed> {
     match link_named(script) {
         LinkKind::Queue => Ok(play_over(heap, script, piled(Queue::new(LARGEST_LIMIT)?)?)?),

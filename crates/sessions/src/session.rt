@@ -3,33 +3,38 @@ use crate::piles::play_over_caps;
 use std::rt::Files;
 use std::{fs, io, str};
 
-/// Plays the script of a name, on the bench and over two caps through the library, and prints whether its listing is the stored one.
+/// Plays the script of a name twice, as the bench does and over two caps through the library, and prints of each listing
+/// whether it is the stored one. The second is played and told also where the first differs.
 pub(crate) fn agrees<R: Files + Print + AllocGlobal>(rt: &R, name: &str) -> io::Result<bool> {
     let script = stored(rt, name, "script")?;
     let expected = stored(rt, name, "listing")?;
-    let played = script::play::play(rt.alloc(), &script)?;
-    if !compare(rt, name, &played, &expected)? {
-        return Ok(false);
-    }
+    let played = script::play::listing_of(rt.alloc(), &script)?;
+    let at_bench = compare(rt, name, "at the bench", &played, &expected)?;
     let Ok(over_caps) = play_over_caps(rt.alloc(), &script) else {
-        println!(rt; "{name}: not played over two caps")?;
+        println!(rt; "{name} over two caps: not played")?;
         return Ok(false);
     };
-    if !compare(rt, name, &over_caps, &expected)? {
-        return Ok(false);
-    }
-    let records = played.len() / LINE;
-    println!(rt; "{name}: {records} records, the listing agrees, and over two caps")?;
-    Ok(true)
+    let over_caps = compare(rt, name, "over two caps", &over_caps, &expected)?;
+    Ok(at_bench && over_caps)
 }
 
-/// Prints where a listing differs, if it does.
-fn compare<R: Print>(rt: &R, name: &str, played: &[u8], expected: &[u8]) -> io::Result<bool> {
+/// Prints whether a listing is the stored one, or else where it differs first.
+fn compare<R: Print>(
+    rt: &R,
+    name: &str,
+    how: &str,
+    played: &[u8],
+    expected: &[u8],
+) -> io::Result<bool> {
     match first_difference(played, expected) {
-        None => Ok(true),
+        None => {
+            let records = played.len() / LINE;
+            println!(rt; "{name} {how}: {records} records, the listing agrees")?;
+            Ok(true)
+        }
         Some(place) => {
             let line = place / LINE;
-            println!(rt; "{name}: the listing differs at line {}", line + 1)?;
+            println!(rt; "{name} {how}: the listing differs at line {}", line + 1)?;
             println!(rt; "  expected {}", text(line_at(expected, place)))?;
             println!(rt; "  found    {}", text(line_at(played, place)))?;
             Ok(false)

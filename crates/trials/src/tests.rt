@@ -14,7 +14,9 @@ mod lone_messages;
 mod lone_refusals;
 mod lone_requests;
 mod message_records;
+mod players;
 mod scripts;
+mod streams;
 
 /// The number of a refusal, or 0: so the tables of the tests have a number in each row.
 fn refusal<T: Drop>(r: Result<T, Fault>) -> u16 {

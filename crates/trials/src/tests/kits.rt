@@ -1,9 +1,10 @@
 use super::refusal;
+use crate::lottery::{Lottery, play_lottery};
 use crate::placed_word::placed_word;
 use board::answer::{AccessAnswer, Arrival, Finished};
 use board::request::AccessKind;
 use kit::loading::Loading;
-use kit::play::{NotPlayed, play};
+use kit::play::{Turn, play};
 use memory::answer::Answer;
 use memory::call::Call;
 use memory::placement::Placement;
@@ -144,18 +145,16 @@ fn plays_a_list(rt: HostRuntime) -> Result<(), Fail> {
             word: 9,
         },
     ];
-    let calls = [
-        Call::Load {
-            board: 1,
-            address: 3,
-        },
-        Call::Load {
-            board: 1,
-            address: 3,
-        },
-        Call::Deliver { pick: 0 },
-        Call::Deliver { pick: 65535 },
-        Call::Deliver { pick: 0 },
+    let load = Call::Load {
+        board: 1,
+        address: 3,
+    };
+    let mut turns = [
+        Turn::from(load),
+        Turn::from(load),
+        Turn::from(Call::Deliver { pick: 0 }),
+        Turn::from(Call::Deliver { pick: 65535 }),
+        Turn::from(Call::Deliver { pick: 0 }),
     ];
     let answers = [
         Ok(Answer::Accessed(AccessAnswer::Opened)),
@@ -174,12 +173,11 @@ fn plays_a_list(rt: HostRuntime) -> Result<(), Fail> {
         }))),
         Ok(Answer::Quiet),
     ];
-    let played = play(rt.alloc(), Queue::new(288)?, 2, 1, &words, &calls);
-    assert!(rt; played.is_ok());
-    if let Ok(played) = played {
-        assert!(rt; played.answers.as_slice() == answers.as_slice());
-        assert_eq!(rt; played.kit.opened(), 1);
+    let kit = play(Queue::new(288)?, 2, 1, &words, &mut turns)?;
+    for (turn, answer) in turns.iter().zip(answers) {
+        assert!(rt; turn.answer == Some(answer));
     }
+    assert_eq!(rt; kit.opened(), 1);
     Ok(())
 }
 
@@ -195,13 +193,40 @@ fn refused_lists(rt: HostRuntime) -> Result<(), Fail> {
     ];
     for (boards, pages, address, number) in cases {
         let words = [Placement { address, word: 1 }];
-        let played = match play(rt.alloc(), Pool::new(288)?, boards, pages, &words, &[]) {
-            Ok(_) => 0,
-            Err(NotPlayed::Refused(fault)) => u16::from(fault),
-            Err(NotPlayed::NoMemory(_)) => 99,
-        };
-        assert_eq!(rt; played, number);
+        let mut turns = [Turn::from(Call::Deliver { pick: 0 })];
+        let played = play(Pool::new(288)?, boards, pages, &words, &mut turns);
+        assert_eq!(rt; refusal(played), number);
+        assert!(rt; turns[0].answer.is_none() == (number != 0));
     }
+    Ok(())
+}
+
+#[test]
+fn over_a_lottery(rt: HostRuntime) -> Result<(), Fail> {
+    // board 1 opens a load of 5; the deliveries with nothing to deliver step the lottery too, and are quiet
+    let words = [Placement {
+        address: 0,
+        word: 5,
+    }];
+    let load = Call::Load {
+        board: 1,
+        address: 0,
+    };
+    let deliver = Call::Deliver { pick: 0 };
+    let mut turns = [deliver, load, deliver, deliver, deliver, load].map(Turn::from);
+    let answers = [
+        Some(Answer::Quiet),
+        Some(Answer::Accessed(AccessAnswer::Opened)),
+        moved(0, Kind::ReadRequest, 0).map(Answer::Arrived),
+        finished(1, AccessKind::Load, 0).map(Answer::Arrived),
+        Some(Answer::Quiet),
+        Some(Answer::Accessed(AccessAnswer::Answered { word: 5 })),
+    ];
+    let kit = play_lottery(Lottery::new(20, 1)?, 2, 1, &words, &mut turns)?;
+    for (turn, answer) in turns.iter().zip(answers) {
+        assert!(rt; turn.answer == answer.map(Ok));
+    }
+    assert_eq!(rt; kit.opened(), 1);
     Ok(())
 }
 

@@ -1,11 +1,11 @@
-use script::play::play;
+use script::play::listing_of;
 use std::alloc::Global;
 use std::process::Abort;
 use std::test::Fail;
 
 /// Plays a script and compares its listing with what the rules give.
 fn expect(rt: &impl Abort, heap: Global, script: &[u8], listing: &[u8]) -> Result<(), Fail> {
-    let played = play(heap, script)?;
+    let played = listing_of(heap, script)?;
     assert!(rt; played.as_slice() == listing, "{}", script.escape_ascii());
     Ok(())
 }
