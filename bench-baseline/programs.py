@@ -20,7 +20,7 @@ def built_plain():
 
 
 def built_verified():
-    """The verified bench, built by play where it is not built yet."""
+    """The verified bench, built by play where it is not built, or its sources have changed since."""
     subprocess.run([os.path.join(TOP, "play"), "/dev/null"], check=True, stdout=subprocess.DEVNULL)
     return VERIFIED
 
