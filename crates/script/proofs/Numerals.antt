@@ -14,4 +14,9 @@ bound_more base n d i h l =
 
 -- and so fit a word where all of them do
 pub fits_more : (base n d i len : ℕ) → base ^ len ≤ 2 ^ 32 → i < len → n < base ^ i → d < base → n * base + d < 2 ^ 32
-fits_more base n d i len r l h b = omega (arith, bound_more base n d i h b, pow-le-pow_right {n = base} (omega arith) {i = i + 1} {j = len} (omega arith))
+fits_more base n d i len r l h b = omega (
+  arith,
+  bound_more base n d i h b,
+  pow-le-pow_right {n =
+      base} (omega arith) {i = i + 1} {j = len} (omega arith),
+)

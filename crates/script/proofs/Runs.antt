@@ -33,19 +33,25 @@ passed_after ((n, false) ∷ qs) rest h = refl
 
 -- what a bench says that a call did
 abbrev pub Says : LinkKind → Kit → List Message → KitCall → KitAnswer → List Message → Kit → List Message → Type 0
-Says link k row call answer posted k-after row-after = ran link k row call ≡ record { answer = Ran call answer; posted = posted; bench = plays.running link k-after row-after }
+Says link k row call answer posted k-after row-after = ran link k row call
+    ≡ record { answer = Ran call answer; posted = posted; bench = plays.running link k-after row-after }
 
 module _ (k : Kit) (row : List Message) (came : Came k row) where
   sure : NothingIsRefused came.boards (over_link k row)
-  sure = never_refuses came.boards came.pages largest_limit came.placements came.may came.history (over_link k row) came.reached
+  sure = never_refuses came.boards came.pages largest_limit came.placements came.may came.history (over_link k row)
+      came.reached
 
   -- A load or a store.
-  pub access_asks : (board address : ℕ) (o : lone.Outcome AccessAnswer) (answer : Result KitAnswer Fault) (posted : List Message) (t : State) →
-      Answers (calls.access_questions (over_link k row) board address) Accessed board o (over_link k row) answer posted t → refusal answer ≡ first_no (access_questions k board address)
-  access_asks board address o answer posted t does = does.0 ∙ passed_after (access_questions k board address) (room (over_link k row)) sure.posts
+  pub access_asks : (board address : ℕ) (o : lone.Outcome AccessAnswer) (answer : Result KitAnswer Fault)
+      (posted : List Message) (t : State) →
+      Answers (calls.access_questions (over_link k row) board address) Accessed board o (over_link k row) answer posted
+      t → refusal answer ≡ first_no (access_questions k board address)
+  access_asks board address o answer posted t does = does.0
+      ∙ passed_after (access_questions k board address) (room (over_link k row)) sure.posts
 
   -- a delivery is not refused
-  pub delivery_asks : (pick : ℕ) (answer : Result KitAnswer Fault) (posted : List Message) (t : State) → DoesCall (Deliver pick) (over_link k row) answer posted t → refusal answer ≡ None
+  pub delivery_asks : (pick : ℕ) (answer : Result KitAnswer Fault) (posted : List Message) (t : State) →
+      DoesCall (Deliver pick) (over_link k row) answer posted t → refusal answer ≡ None
   delivery_asks pick answer posted t (inl q) = ap refusal q.1
   delivery_asks pick answer posted t (inr d) = d.arrives.0 ∙ sure.arrivals d.message d.rest d.waited
 
@@ -54,18 +60,26 @@ abbrev pub on_link : Kit → ℕ → List Message → State
 on_link k limit row = over k limit (bag row)
 
 module _ (k : Kit) (limit : ℕ) (row : List Message) where
-  pub access_says : (link : LinkKind) (call : KitCall) (board address : ℕ) (o : lone.Outcome AccessAnswer) (a : KitAnswer) (posted : List Message) (t : State) (row-after : List Message) →
-      Answers (calls.access_questions (on_link k limit row) board address) Accessed board o (on_link k limit row) (Ok a) posted t → row-after ≡ row ++ posted →
-      after_access link k row call board o ≡ record { answer = Ran call a; posted = posted; bench = plays.running link t.kit row-after }
+  pub access_says : (link : LinkKind) (call : KitCall) (board address : ℕ) (o : lone.Outcome AccessAnswer)
+      (a : KitAnswer) (posted : List Message) (t : State) (row-after : List Message) →
+      Answers (calls.access_questions (on_link k limit row) board address) Accessed board o (on_link k limit row)
+      (Ok a) posted t → row-after ≡ row ++ posted →
+      after_access link k row call board o
+      ≡ record { answer = Ran call a; posted = posted; bench = plays.running link t.kit row-after }
   access_says link call board address o a posted t row-after does rows = rw (does.1.0, rows, does.1.1, does.1.2) refl
 
-  pub arrival_says : (link : LinkKind) (pick : ℕ) (a : KitAnswer) (posted : List Message) (t : State) (d : Delivers (on_link k limit row) (Ok a) posted t) (between row-after : List Message) →
-      Chosen (place_of link pick (length row)) (Some d.message) row between → row-after ≡ between ++ posted → Says link k row (Deliver pick) a posted t.kit row-after
+  pub arrival_says : (link : LinkKind) (pick : ℕ) (a : KitAnswer) (posted : List Message) (t : State)
+      (d : Delivers (on_link k limit row) (Ok a) posted t) (between row-after : List Message) →
+      Chosen (place_of link pick (length row)) (Some d.message) row between → row-after ≡ between ++ posted →
+      Says link k row (Deliver pick) a posted t.kit row-after
   arrival_says link pick a posted t d between row-after chosen rows =
-      let which : taken link pick row ≡ Some (record { message = d.message; rest = between }) = taken_is (place_of link pick (length row)) d.message row between chosen in
+      let which : taken link pick row
+      ≡ Some (record { message = d.message; rest = between }) =
+      taken_is (place_of link pick (length row)) d.message row between chosen in
       ap (after_delivery link k (Deliver pick)) which ∙ rw (d.arrives.1.0, rows, d.arrives.1.1, d.arrives.1.2) refl
 
-  pub quiet_says : (link : LinkKind) (pick : ℕ) (a : KitAnswer) (posted : List Message) (t : State) → IsQuiet (on_link k limit row) (Ok a) posted t → row ≡ [] → Says link k row (Deliver pick) a posted t.kit []
+  pub quiet_says : (link : LinkKind) (pick : ℕ) (a : KitAnswer) (posted : List Message) (t : State) →
+      IsQuiet (on_link k limit row) (Ok a) posted t → row ≡ [] → Says link k row (Deliver pick) a posted t.kit []
   quiet_says link pick a posted t q none =
       let which : taken link pick row ≡ None = ap (λ x. taken link pick x) none in
       let is : a ≡ Quiet = (let e = q.1 in cc) in

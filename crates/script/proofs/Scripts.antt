@@ -7,7 +7,8 @@ use Rattle.std.proofs.lemmas.Bool.{cases_lt}
 use Rattle.script.specs.Records.{record_at, record_count, records}
 
 -- a script's first record, of sixteen characters or of all that there are, and what is behind it
-module _ (script chunk rest : List ℕ) (parts : script ≡ chunk ++ rest) (size : length chunk ≡ min 16 (length script)) where
+module _ (script chunk rest : List ℕ) (parts : script ≡ chunk ++ rest) (size : length chunk
+    ≡ min 16 (length script)) where
   lengths : length script ≡ length chunk + length rest
   lengths = ap length parts ∙ length-append chunk rest
 
@@ -35,7 +36,8 @@ module _ (script chunk rest : List ℕ) (parts : script ≡ chunk ++ rest) (size
   rest_from a (suc n) = rw (next a, rest_from (a + 1) n)
 
   -- the first record comes before the others, and there is one more of them
-  pub records_more : 0 < length script → (records script ≡ chunk ∷ records rest) × (record_count script ≡ suc (record_count rest))
+  pub records_more : 0 < length script →
+      (records script ≡ chunk ∷ records rest) × (record_count script ≡ suc (record_count rest))
   records_more h =
       let count : record_count script - 0 ≡ suc (record_count rest - 0) = omega (arith, lengths) in (
         ap (λ (n : ℕ). map (record_at script) (range_with_len 0 n)) count

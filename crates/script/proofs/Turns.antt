@@ -239,7 +239,8 @@ started_at before b k r call e starts passed f =
 
 -- a record without its form
 pub unread : (before : Bench) (o : Option Call) (fault : Fault) (result : Result Answer Fault) → Ready before →
-    Some (number fault) ≡ first_no ((number BadForm, is_some o) ∷ []) → result ≡ Err fault → Turns o before result before
+    Some (number fault) ≡ first_no ((number BadForm, is_some o) ∷ []) → result ≡ Err fault →
+    Turns o before result before
 unread before o fault result ready asked rises =
     subst (λ x. Turns o before x before) (sym rises)
     (record {

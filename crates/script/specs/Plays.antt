@@ -77,7 +77,8 @@ ran link k row (Deliver pick) = after_delivery link k (Deliver pick) (taken link
 
 -- is there such a board, and does it take the access? A delivery is asked nothing.
 abbrev pub access_questions : kits.Kit → ℕ → ℕ → List (ℕ × Bool)
-access_questions k board address = (number NoSuchBoard, nat_lt board k.boards) ∷ asks.access_questions (kits.board_at k board) address
+access_questions k board address =
+    (number NoSuchBoard, nat_lt board k.boards) ∷ asks.access_questions (kits.board_at k board) address
 
 abbrev pub run_questions : kits.Kit → KitCall → List (ℕ × Bool)
 run_questions k (Load board address) = access_questions k board address

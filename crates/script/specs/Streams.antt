@@ -14,8 +14,8 @@ at_hand h = take h.len h.chars
 abbrev pub most_at_hand : ℕ
 most_at_hand = 16384
 
--- Answering keeps up with reading: what was read of a script is answered, but for some last characters, and before those the
--- play was not over.
+-- Answering keeps up with reading: what was read of a script is answered, but for some last characters, and before those
+-- the play was not over.
 pub record KeepsUp (script left written now : Option (List ℕ)) : Type 0 where
   pub answered : List ℕ
   pub held : List ℕ

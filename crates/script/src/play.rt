@@ -12,7 +12,7 @@ use crate::hand::{Hand, ROOM};
 use crate::output::put_out;
 use crate::player::Player;
 use crate::record::RECORD_LENGTH;
-use std::alloc::Global;
+use std::alloc::{AllocError, Global};
 use std::io;
 use std::io::{ErrorKind, Read, Write};
 
@@ -100,12 +100,16 @@ pub fn play<R: Read, W: Write>(input: &mut R, output: &mut W) -> io::Result<()>
     Err(ErrorKind::TimedOut.into())
 }
 
-/// The listing of a script that is at hand, from its bytes to the bytes of the answers.
-pub fn listing_of(heap: Global, script: &[u8]) -> io::Result<Vec<u8>>
+/// The listing of a script that is at hand, from its bytes to the bytes of the answers. Only memory for it can be wanting.
+pub fn listing_of(heap: Global, script: &[u8]) -> Result<Vec<u8>, AllocError>
     ensures { IfOk result (λ v. v.items ≡ listing script.now) }
 {
-    let mut input = script;
+    let mut player = Player::new();
     let mut listing = Vec::new(heap);
-    play(&mut input, &mut listing)?;
+    let mut out = [0; ROOM];
+    for records in script.chunks(ROOM) {
+        let written = play_records(&mut player, records, &mut out);
+        listing.extend_from_slice(&out[..written])?;
+    }
     Ok(listing)
 }

@@ -12,11 +12,13 @@ loop-text-preserved c =
     let steps = c.in-Some.ensures.steps in
     let text = c.in-Some.text.now in
     let behind = chunks_rest c.next.new.self in
-    let more = records_more (chunks_rest c.loop-text.text-iterator) text behind steps.1.0 (rw so.size at steps.1.1) steps.1.2 in
+    let more = records_more (chunks_rest c.loop-text.text-iterator) text behind steps.1.0 (rw so.size at steps.1.1)
+    steps.1.2 in
     let answered = c.answer.ensures in
     record {
       size = steps.0 ∙ so.size;
-      lines = line_more text (records behind) _ more.0 _ _ _ answered.line answered.play _ _ _ c.put_line-at.ensures.chars so.lines;
+      lines = line_more text (records behind) _ more.0 _ _ _ answered.line answered.play _ _ _
+          c.put_line-at.ensures.chars so.lines;
       play = next_more text (records behind) _ more.0 _ _ _ answered.play so.play;
       room = omega (arith, c.put_line-at.ensures.room, more.1, so.room);
     }

@@ -11,6 +11,7 @@ invariant-loop-text l = record {
   size : chunks_size l.text-iterator ≡ 16;
   lines : take l.at l.out ++ lines (play_of l.player) (records (chunks_rest l.text-iterator))
       ≡ lines (play_of l.initial.player) (records l.script);
-  play : next_all (play_of l.player) (records (chunks_rest l.text-iterator)) ≡ next_all (play_of l.initial.player) (records l.script);
+  play : next_all (play_of l.player) (records (chunks_rest l.text-iterator))
+      ≡ next_all (play_of l.initial.player) (records l.script);
   room : l.at + 16 * record_count (chunks_rest l.text-iterator) ≤ most_at_hand;
 }

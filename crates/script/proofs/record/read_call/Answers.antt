@@ -12,4 +12,5 @@ returns-clause-refused c =
     let same : c.args.text.now ≡ r = grind (arith, common_steps) in
     let numbers : numbers_in r ≡ Some n = grind (arith, common_steps) in
     let is = form_is r n (sym c.is_framed.ensures ∙ c.if-not-is_framed.false) numbers in
-    rw same (refused_call (form r) c.name_call.result (c.name_call.ensures ∙ ap (λ l. ok_or (call_of l n) BadForm) c.from.ensures ∙ ap (λ o. ok_or o BadForm) (sym is)))
+    rw same (refused_call (form r) c.name_call.result (c.name_call.ensures
+    ∙ ap (λ l. ok_or (call_of l n) BadForm) c.from.ensures ∙ ap (λ o. ok_or o BadForm) (sym is)))

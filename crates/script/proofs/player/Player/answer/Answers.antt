@@ -12,7 +12,8 @@ pub returns-then-self : goal.returns-then-self
 returns-then-self c =
     no_answer c.args.text.now c.args.self.now (elim c.then-self.branch [
       | then-self-via-then-self w ↦ inl w.if-self.true
-      | then-self-via-else-self+then-is_empty w ↦ inr (eqb-true (length c.args.text.now) 0 (sym w.is_empty.ensures ∙ w.if-is_empty.true))
+      | then-self-via-else-self+then-is_empty w ↦ inr (eqb-true (length c.args.text.now) 0 (sym w.is_empty.ensures
+          ∙ w.if-is_empty.true))
     ])
 
 pub returns : goal.returns
@@ -25,10 +26,15 @@ returns c =
     elim c.match-turn.branch [
       | in-Ok w ↦
           let bench = ap (λ p. p.bench) w.self-is in
-          let turns = subst (λ (b : Bench). Turns (form chars) before (Ok w.in-Ok.answer) b) (sym bench) w.in-Ok.ensures in
-          answers_done chars c.args.self.now left some c.if-self.false w.in-Ok.answer c.match-turn.line _ turns (w.line-is ∙ w.into-line.ensures) line (ap (λ p. p.is_over) w.self-is ∙ c.if-self.false)
+          let turns = subst (λ (b : Bench). Turns (form chars) before (Ok w.in-Ok.answer) b) (sym bench)
+          w.in-Ok.ensures in
+          answers_done chars c.args.self.now left some c.if-self.false w.in-Ok.answer c.match-turn.line _ turns
+          (w.line-is ∙ w.into-line.ensures) line (ap (λ p. p.is_over) w.self-is ∙ c.if-self.false)
       | in-Err w ↦
           let bench = ap (λ p. p.bench) w.self-is in
-          let turns = subst (λ (b : Bench). Turns (form chars) before (Err w.in-Err.fault) b) (sym bench) w.in-Err.ensures in
-          answers_refusal chars c.args.self.now left some c.if-self.false w.in-Err.fault c.match-turn.line _ turns (w.line-is ∙ w.into-line-in-Err.ensures) line (ap (λ p. p.is_over) w.self-is ∙ w.ends_if_refused-self.ensures (number w.in-Err.fault))
+          let turns = subst (λ (b : Bench). Turns (form chars) before (Err w.in-Err.fault) b) (sym bench)
+          w.in-Err.ensures in
+          answers_refusal chars c.args.self.now left some c.if-self.false w.in-Err.fault c.match-turn.line _ turns
+          (w.line-is ∙ w.into-line-in-Err.ensures) line (ap (λ p. p.is_over) w.self-is
+          ∙ w.ends_if_refused-self.ensures (number w.in-Err.fault))
     ]
