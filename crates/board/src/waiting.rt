@@ -17,7 +17,7 @@ impl Waiting {
     ghost use Rattle.board.specs.Expected.{waits};
 
     /// No request waits.
-    pub(crate) fn new() -> Waiting
+    pub fn new() -> Waiting
         ensures { queue result ≡ [] }
     {
         Waiting {

@@ -3,7 +3,8 @@ ghost use Rattle.wire.specs.Questions.{refusal, first_no};
 ghost use Rattle.records.specs.Forms.{has_parties, in_range, all_zero, carries_nothing, kind_form, message_questions};
 
 use wire::fault::Fault;
-use wire::message::{Kind, MOST_HOPS, Message};
+pub use wire::message::MOST_HOPS;
+use wire::message::{Kind, Message};
 
 /// Boards that a message names have numbers below this.
 pub const BOARD_LIMIT: u8 = 16;

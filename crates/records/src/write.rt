@@ -30,7 +30,8 @@ fn put_head(message: &Message, out: &mut [u8; RECORD_LENGTH])
     let parties = [message.from, message.to, message.asker, message.hops];
     put(out, 2, &parties);
     put(out, 6, &message.copies.to_bits().to_le_bytes());
-    put(out, 8, &[0; 8]);
+    put(out, 8, &[0; 4]);
+    put(out, 12, &[0; 4]);
 }
 
 /// Writes the words behind the head.

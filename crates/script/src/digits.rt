@@ -21,10 +21,11 @@ fn digit(base: Base, c: u8) -> Option<u32>
     ensures value { result ≡ digit_of (base_number base) c }
     ensures bound { IfSome result (λ d. d < base_number base) }
 {
-    if c.is_ascii_uppercase() {
-        return None;
+    match (base, c) {
+        (_, b'0'..=b'9') => Some(u32::from(c - b'0')),
+        (Base::Sixteen, b'a'..=b'f') => Some(u32::from(c - b'a' + 10)),
+        _ => None,
     }
-    char::from(c).to_digit(base.into())
 }
 
 /// The number that one digit more makes of `n`.

@@ -2,7 +2,7 @@ ghost use Rattle.std.specs.Prelude.{◌≡◌, ◌≢◌, ℕ, ◌+◌, ◌≤�
 ghost use Rattle.std.specs.Prelude.{IfSome, IfOk, IfErr, OnOk, OnErr};
 ghost use Rattle.std.specs.Io.KnownBytes.{Appends};
 ghost use Rattle.std.specs.IoError.{error_kind};
-ghost use Rattle.script.specs.Players.{lines, next_all, play_of, said};
+ghost use Rattle.script.specs.Players.{lines, next, next_all, play_of, reply, said};
 ghost use Rattle.script.specs.Plays.{listing};
 ghost use Rattle.script.specs.Records.{records};
 ghost use Rattle.script.specs.Sessions.{SessionKeepsOneMemory};
@@ -29,6 +29,16 @@ fn put_line(out: &mut [u8; ROOM], at: usize, line: Option<[u8; 16]>) -> usize
     at + 16
 }
 
+/// Gives a player a record, and puts its line behind the first `at` characters. How many are there then?
+fn play_record(player: &mut Player, text: &[u8], out: &mut [u8; ROOM], at: usize) -> usize
+    requires { at + 16 ≤ most_at_hand }
+    ensures chars { take result out.new ≡ take at out.old ++ said (reply (play_of player.old) text.now) }
+    ensures play { play_of player.new ≡ next (play_of player.old) text.now }
+    ensures room { result ≤ at + 16 }
+{
+    put_line(out, at, player.answer(text))
+}
+
 /// Gives a player the records of a script, one after another: how many characters answer them.
 fn play_records(player: &mut Player, script: &[u8], out: &mut [u8; ROOM]) -> usize
     requires { length script.now ≤ most_at_hand }
@@ -38,7 +48,7 @@ fn play_records(player: &mut Player, script: &[u8], out: &mut [u8; ROOM]) -> usi
 {
     let mut at = 0;
     for text in script.chunks(RECORD_LENGTH) {
-        at = put_line(out, at, player.answer(text));
+        at = play_record(player, text, out, at);
     }
     at
 }

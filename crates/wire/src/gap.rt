@@ -9,6 +9,6 @@ pub fn take_out<T: Copy>(items: &mut [T], place: usize) -> T
     ensures rest { items.new ≡ closed items.old (length items.old) place }
 {
     let item = items[place];
-    items.copy_within(place + 1.., place);
+    items[place..].copy_within(1.., 0);
     item
 }

@@ -1,4 +1,4 @@
-use Rattle.std.proofs.Common.{◌∙◌, append-nil, arith}
+use Rattle.std.proofs.Common.{◌∙◌, append-nil, arith, refl}
 use Rattle.std.proofs.lemmas.List.{nil_from_length}
 use Rattle.std.specs.Slice.Iter.{chunks_rest}
 use Rattle.script.specs.Records.{records}
@@ -14,13 +14,12 @@ loop-text-preserved c =
     let behind = chunks_rest c.next.new.self in
     let more = records_more (chunks_rest c.loop-text.text-iterator) text behind steps.1.0 (rw so.size at steps.1.1)
     steps.1.2 in
-    let answered = c.answer.ensures in
+    let played = c.play_record-at.ensures in
     record {
       size = steps.0 ∙ so.size;
-      lines = line_more text (records behind) _ more.0 _ _ _ answered.line answered.play _ _ _
-          c.put_line-at.ensures.chars so.lines;
-      play = next_more text (records behind) _ more.0 _ _ _ answered.play so.play;
-      room = omega (arith, c.put_line-at.ensures.room, more.1, so.room);
+      lines = line_more text (records behind) _ more.0 _ _ _ refl played.play _ _ _ played.chars so.lines;
+      play = next_more text (records behind) _ more.0 _ _ _ played.play so.play;
+      room = omega (arith, played.room, more.1, so.room);
     }
 
 pub returns-clause-lines : goal.returns-clause-lines
